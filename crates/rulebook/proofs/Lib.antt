@@ -1,0 +1,6 @@
+pub mod Every
+pub mod Sums
+pub mod Rights
+pub mod Catching
+pub mod EicLaws
+pub mod Worked

@@ -1,0 +1,7 @@
+pub mod Texts
+pub mod Schemes
+pub mod Misreading
+pub mod Codes
+pub mod Articles
+pub mod Gateway
+pub mod Cases
