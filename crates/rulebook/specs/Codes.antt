@@ -10,7 +10,7 @@ use Rattle.grounds.specs.declared.Ground.the-variants.{CodeForm, OtherOffice, C
 use Rattle.grounds.specs.declared.Refusal.{Refusal}
 use Rattle.std.specs.declared.result.Result.{Result}
 use Rattle.std.specs.declared.result.Result.the-variants.{Ok, Err}
-use Rattle.rulebook.specs.Texts.{Text, refused, viewed}
+use Rattle.rulebook.specs.Texts.{Text, refused, viewed, onward}
 use Rattle.rulebook.specs.Schemes.{Scheme, weighed, isRight}
 
 abbrev pub isDigit : ℕ → Bool
@@ -59,14 +59,13 @@ isOffice t = eqb (length t) 2 && ((isDigit (getD t 0 0) || isCapital (getD t 0 0
 abbrev pub ofOffice : Text → Text → Bool
 ofOffice office t = eqb (getD t 0 0) (getD office 0 0) && eqb (getD t 1 0) (getD office 1 0)
 
--- what is made of the weighted sum of lawful characters
-abbrev pub andThen : {X : Type 0} → Result ℕ ℕ → (ℕ → Result X Refusal) → Result X Refusal
-andThen (Ok n) f = f n
-andThen (Err p) f = refused CodeForm p
+abbrev pub placedAs : Result ℕ ℕ → Result ℕ Refusal
+placedAs (Ok sum) = Ok sum
+placedAs (Err p) = refused CodeForm p
 
--- n characters, each lawful at its place, and what is made of their weighted sum
-abbrev pub formed : {X : Type 0} → ℕ → Text → (ℕ → Result X Refusal) → Result X Refusal
-formed n t f = cond (eqb (length t) n) (andThen (weighed eic t) f) (refused CodeForm 0)
+-- the weighted sum of n characters, each lawful at its place
+abbrev pub sumOf : ℕ → Text → Result ℕ Refusal
+sumOf n t = cond (eqb (length t) n) (placedAs (weighed eic t)) (refused CodeForm 0)
 
 -- the text itself, if its sum is a multiple of 37
 abbrev pub checked : Text → ℕ → Result Text Refusal
@@ -78,11 +77,11 @@ readOffice t = cond (isOffice t) (Ok t) (refused OtherOffice 0)
 
 -- a code is read: form, then check character
 abbrev pub readCode : Text → Result Text Refusal
-readCode t = formed 16 t (checked t)
+readCode t = onward (sumOf 16 t) (checked t)
 
 -- a code is read for an office: form, then office, then check character
 abbrev pub readCodeFor : Text → Text → Result Text Refusal
-readCodeFor office t = formed 16 t (λ sum. cond (ofOffice office t) (checked t sum) (refused OtherOffice 0))
+readCodeFor office t = onward (sumOf 16 t) (λ sum. cond (ofOffice office t) (checked t sum) (refused OtherOffice 0))
 
 -- what a weighted sum is short of a multiple of 37
 abbrev pub shortOf : ℕ → ℕ
@@ -94,7 +93,7 @@ completing sum = cond (eqb (shortOf sum) 36) (refused CheckCharacter 0) (Ok (cha
 
 -- the check character of fifteen characters
 abbrev pub checkCharacter : Text → Result ℕ Refusal
-checkCharacter t = formed 15 t completing
+checkCharacter t = onward (sumOf 15 t) completing
 
 -- c is a check character of t
 abbrev pub Completes : Text → ℕ → Type 0
@@ -103,3 +102,8 @@ Completes t c = isSound (t ++ (c ∷ [])) ≡ true
 -- the fifteen characters with their check character
 abbrev pub completed : Text → Result Text Refusal
 completed t = viewed (λ c. t ++ (c ∷ [])) (checkCharacter t)
+
+-- a check character is the only character that completes the fifteen, and a refusal says that none does
+abbrev pub OnlyCompletion : Text → Result ℕ Refusal → Type 0
+OnlyCompletion t (Ok c) = Completes t c × ((d : ℕ) → Completes t d → d ≡ c)
+OnlyCompletion t (Err e) = (d : ℕ) → Completes t d → ⊥

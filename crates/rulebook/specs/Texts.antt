@@ -19,3 +19,8 @@ refused g p = Err (inField 0 g p)
 abbrev pub viewed : {X Y E : Type 0} → (X → Y) → Result X E → Result Y E
 viewed f (Ok x) = Ok (f x)
 viewed f (Err e) = Err e
+
+-- go on with the value, or hand the refusal on with nothing lost
+abbrev pub onward : {X Y E : Type 0} → Result X E → (X → Result Y E) → Result Y E
+onward (Ok x) f = f x
+onward (Err e) f = Err e
