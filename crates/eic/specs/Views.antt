@@ -2,6 +2,7 @@
 use mathlib.Core.Bool.{cond}
 use mathlib.Core.List.{[], _∷_, _++_}
 use Prim.Native.Nat.{ℕ}
+use lib.Chars.{codes}
 use Rattle.std.specs.declared.option.Option.{Option}
 use Rattle.std.specs.declared.option.Option.the-variants.{Some, None}
 use Rattle.rulebook.specs.Texts.{Text}
@@ -20,6 +21,15 @@ letterOf Party = 88
 letterOf Zone = 89
 letterOf MeteringPoint = 90
 
+abbrev pub kindWords : Kind → Text
+kindWords TieLine = codes "tie line"
+kindWords ItSystem = codes "IT system"
+kindWords Resource = codes "resource"
+kindWords Party = codes "party"
+kindWords Zone = codes "zone"
+kindWords MeteringPoint = codes "metering point"
+
+-- the type letter, where it is one
 abbrev pub kindRead : ℕ → Option ℕ
 kindRead letter = cond (isType letter) (Some letter) None
 

@@ -1,5 +1,5 @@
 // The six types of object that a code can name.
-ghost use Rattle.eic.specs.Views.{kindRead, letterOf};
+ghost use Rattle.eic.specs.Views.{kindRead, kindWords, letterOf};
 ghost use Rattle.std.specs.Options.{mapped};
 ghost use mathlib.Core.Path.{_≡_};
 
@@ -39,6 +39,20 @@ impl Kind {
             Kind::Party => b'X',
             Kind::Zone => b'Y',
             Kind::MeteringPoint => b'Z',
+        }
+    }
+
+    // What the type is called.
+    pub fn words(self) -> &'static str
+        ensures { λ r. ⌜ now r ≡ kindWords self ⌝ }
+    {
+        match self {
+            Kind::TieLine => "tie line",
+            Kind::ItSystem => "IT system",
+            Kind::Resource => "resource",
+            Kind::Party => "party",
+            Kind::Zone => "zone",
+            Kind::MeteringPoint => "metering point",
         }
     }
 }

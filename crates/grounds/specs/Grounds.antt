@@ -1,8 +1,10 @@
 -- The number and the words of each ground for refusal, case by case, and what a refusal tells.
 -- A reader has to believe: these numbers and words are the ones that docs/ list.
+use mathlib.Core.Bool.{Bool, cond, _&&_}
 use mathlib.Core.List.{List}
 use Prim.Native.Nat.{ℕ}
 use lib.Chars.{codes}
+use lib.Dec.{eqb}
 use Rattle.grounds.specs.declared.Ground.{Ground}
 use Rattle.grounds.specs.declared.Ground.the-variants.{Buffer, LineLength, Action, FieldCount, Date, CodeForm, OtherOffice, CheckCharacter, FieldRule, AlreadyIssued, NotRegistered, StatusForbids, EarlierDate, OtherHolder, ObjectHasCode, NameHeld, NamedCode, NoRoom}
 use Rattle.grounds.specs.declared.Refusal.{Refusal}
@@ -33,7 +35,7 @@ wordsOf LineLength = codes "line is empty or over 194 bytes"
 wordsOf Action = codes "action is not C, U, D, R or L"
 wordsOf FieldCount = codes "number of fields does not fit the action"
 wordsOf Date = codes "date is not a day from 2000-01-01 to 2099-12-31"
-wordsOf CodeForm = codes "code has a wrong length or an unlawful character"
+wordsOf CodeForm = codes "character is not lawful at its place"
 wordsOf OtherOffice = codes "office is not this office or not an office"
 wordsOf CheckCharacter = codes "check character does not fit"
 wordsOf FieldRule = codes "field breaks its rule"
@@ -50,3 +52,10 @@ wordsOf NoRoom = codes "store has no room"
 -- a refusal on this ground, in this field, at this position
 abbrev pub inField : ℕ → Ground → ℕ → Refusal
 inField k g p = record { ground = g; field = k; position = p }
+
+abbrev pub isCodeForm : Ground → Bool
+isCodeForm g = eqb (numberOf g) 6
+
+-- what a refusal means: a code that has no unlawful character to show has a wrong length
+abbrev pub refusalWords : Refusal → List ℕ
+refusalWords r = cond (isCodeForm (r .ground) && eqb (r .position) 0) (codes "code does not have the due length") (wordsOf (r .ground))

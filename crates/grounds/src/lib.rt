@@ -1,5 +1,5 @@
 // The grounds on which a call is refused, and what a refusal tells.
-ghost use Rattle.grounds.specs.Grounds.{inField, numberOf, wordsOf};
+ghost use Rattle.grounds.specs.Grounds.{inField, numberOf, refusalWords, wordsOf};
 ghost use mathlib.Core.Path.{_≡_};
 
 // Why a call is refused. The numbers and the words are one definition each, in specs/Grounds.
@@ -62,7 +62,7 @@ impl Ground {
     }
 
     // What the ground means, for a person.
-    pub fn words(self) -> &'static str
+    fn words(self) -> &'static str
         ensures { λ r. ⌜ now r ≡ wordsOf self ⌝ }
     {
         match self {
@@ -71,7 +71,7 @@ impl Ground {
             Ground::Action => "action is not C, U, D, R or L",
             Ground::FieldCount => "number of fields does not fit the action",
             Ground::Date => "date is not a day from 2000-01-01 to 2099-12-31",
-            Ground::CodeForm => "code has a wrong length or an unlawful character",
+            Ground::CodeForm => "character is not lawful at its place",
             Ground::OtherOffice => "office is not this office or not an office",
             Ground::CheckCharacter => "check character does not fit",
             Ground::FieldRule => "field breaks its rule",
@@ -94,5 +94,15 @@ impl Refusal {
         ensures { λ r. ⌜ r ≡ inField 0 ground position ⌝ }
     {
         Refusal { ground, field: 0, position }
+    }
+
+    // What the refusal means, for a person.
+    pub fn words(&self) -> &'static str
+        ensures { λ r. ⌜ now r ≡ refusalWords (now (self .entry)) ⌝ }
+    {
+        match self.ground {
+            Ground::CodeForm if self.position == 0 => "code does not have the due length",
+            ground => ground.words(),
+        }
     }
 }

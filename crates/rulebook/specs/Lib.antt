@@ -1,4 +1,5 @@
 pub mod Texts
+pub mod Lines
 pub mod Schemes
 pub mod Misreading
 pub mod Codes
