@@ -24,5 +24,5 @@ put-together (a ∷ b ∷ c ∷ r) m l h el em =
     let u = tailOf (a ∷ b ∷ c ∷ r) in
     let is : u ≡ r = take-all (length (a ∷ b ∷ c ∷ r) - 3) r (omega arith) in
     let body : m ++ (getD u (length u - 1) 0 ∷ []) ≡ r =
-        ap (λ z. z ++ (getD u (length u - 1) 0 ∷ [])) em ∙ front-last u (omega (arith, ap length is)) ∙ is in
+    ap (λ z. z ++ (getD u (length u - 1) 0 ∷ [])) em ∙ front-last u (omega (arith, ap length is)) ∙ is in
     ap (λ z. a ∷ (b ∷ (z ∷ (m ++ (getD u (length u - 1) 0 ∷ []))))) el ∙ ap (λ z. a ∷ (b ∷ (c ∷ z))) body

@@ -38,7 +38,9 @@ fn write_refusal<W: Write>(out: &mut W, refusal: &Refusal) -> io::Result<()> {
 
 fn write_uncompleted<W: Write>(out: &mut W, refusal: &Refusal) -> io::Result<()> {
     match refusal.ground {
-        Ground::CheckCharacter => out.write_all(b"refused with 8: no check character completes these fifteen"),
+        Ground::CheckCharacter => out.write_all(
+            b"refused with 8: no check character completes these fifteen",
+        ),
         _ => write_refusal(out, refusal),
     }
 }
@@ -65,7 +67,12 @@ fn answer<W: Write>(out: &mut W, number: u64, text: &[u8]) -> io::Result<()> {
 }
 
 // Answers each line that ends in this piece of the input, and tells how many lines there were so far.
-fn answer_piece<W: Write>(out: &mut W, line: &mut LineBuffer<KEPT>, count: u64, piece: &[u8]) -> io::Result<u64> {
+fn answer_piece<W: Write>(
+    out: &mut W,
+    line: &mut LineBuffer<KEPT>,
+    count: u64,
+    piece: &[u8],
+) -> io::Result<u64> {
     let mut number = count;
     let mut rest = piece;
     while let Some(done) = line.fill(rest) {

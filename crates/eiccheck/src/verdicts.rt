@@ -29,7 +29,11 @@ pub fn examine(text: &[u8]) -> Verdict
     ensures { λ r. ⌜ seen r ≡ examined (now (text .entry)) ⌝ }
 {
     if is_thirteen_digits(text) {
-        return if is_ean(text) { Verdict::RightEan } else { Verdict::WrongEan };
+        return if is_ean(text) {
+            Verdict::RightEan
+        } else {
+            Verdict::WrongEan
+        };
     }
     if text.len() == 15 {
         return match Code::complete(text) {

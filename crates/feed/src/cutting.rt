@@ -12,7 +12,10 @@ impl<const N: usize> LineBuffer<N> {
     pub fn new() -> LineBuffer<N>
         ensures { λ r. ⌜ kept r ≡ [] ⌝ }
     {
-        LineBuffer { bytes: [0; N], used: 0 }
+        LineBuffer {
+            bytes: [0; N],
+            used: 0,
+        }
     }
 
     // Begins a new line.

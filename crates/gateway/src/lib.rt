@@ -33,5 +33,9 @@ pub extern "C" fn eic_check_character(bytes: &[u8]) -> u32
 pub extern "C" fn eic_ean(bytes: &[u8]) -> u32
     ensures { λ r. ⌜ r ≡ eanNumber (now (bytes .entry)) ⌝ }
 {
-    if is_ean(bytes) { 0 } else { u32::from(Ground::FieldRule.number()) }
+    if is_ean(bytes) {
+        0
+    } else {
+        u32::from(Ground::FieldRule.number())
+    }
 }

@@ -93,7 +93,11 @@ impl Refusal {
     pub fn new(ground: Ground, position: u8) -> Refusal
         ensures { λ r. ⌜ r ≡ inField 0 ground position ⌝ }
     {
-        Refusal { ground, field: 0, position }
+        Refusal {
+            ground,
+            field: 0,
+            position,
+        }
     }
 
     // What the refusal means, for a person.

@@ -56,7 +56,7 @@ module _ (s : Scheme) (below : Below s) (distinct : Distinct s) where
       let long : j < length (set t i a) = omega (arith, length-set t i a) in
       let first = sum-replaced t i a hi in
       let second : weightedSum s 0 (set (set t i a) j b) + s .weight j * s .value (getD t j 0) ≡ weightedSum s 0 (set t i a) + s .weight j * s .value b =
-          rw (getD-set-other t i j a 0 other) at (sum-replaced (set t i a) j b long) in
+      rw (getD-set-other t i j a 0 other) at (sum-replaced (set t i a) j b long) in
       omega arith
 
   -- one character replaced is caught by every scheme
@@ -67,7 +67,7 @@ module _ (s : Scheme) (below : Below s) (distinct : Distinct s) where
       not-right s (set t i b) (λ r′.
       let la : s .lawful i a ≡ true = lawful-at r i hi in
       let lb : s .lawful i b ≡ true =
-          subst (λ (z : ℕ). s .lawful i z ≡ true) (getD-set-same t i b 0 hi) (lawful-at r′ i (omega (arith, length-set t i b))) in
+      subst (λ (z : ℕ). s .lawful i z ≡ true) (getD-set-same t i b 0 hi) (lawful-at r′ i (omega (arith, length-set t i b))) in
       let unlike : s .value a ≡ s .value b → ⊥ = λ e. ne (sym (distinct i i a b la lb e)) in
       let f = factor-of (s .modulus) (s .weight i) (s .value a) (s .value b) _ _ (r .sums) (r′ .sums) (sum-replaced t i b hi) (below i a la) (below i b lb) unlike in
       telling i (f .factor) (omega (arith, r .long)) (f .positive) (f .small) (f .multiple))
@@ -126,7 +126,7 @@ module _ (s : Scheme) (below : Below s) (distinct : Distinct s) where
         let long : j < length (set t i b) = omega (arith, length-set t i b) in
         let la : s .lawful i a ≡ true = lawful-at r i hi in
         let lb : s .lawful j b ≡ true =
-            subst (λ (z : ℕ). s .lawful j z ≡ true) (getD-set-same (set t i b) j b 0 long) (lawful-at r′ j (omega (arith, length-set (set t i b) j b))) in
+        subst (λ (z : ℕ). s .lawful j z ≡ true) (getD-set-same (set t i b) j b 0 long) (lawful-at r′ j (omega (arith, length-set (set t i b) j b))) in
         let both : weightedSum s 0 (set (set t i b) j b) + w * x + v * x ≡ weightedSum s 0 t + w * y + v * y = rw (← like) at (sum-both t i j b b hi hj ne) in
         let e : weightedSum s 0 (set (set t i b) j b) + (w + v) * x ≡ weightedSum s 0 t + (w + v) * y = omega (arith, add-mul w v x, add-mul w v y) in
         let f = factor-of m (w + v) x y _ _ (r .sums) (r′ .sums) e (below i a la) (below j b lb) (λ z. new (sym (distinct i j a b la lb z))) in

@@ -82,12 +82,13 @@ by-value t sum w false e =
     let v = shortOf sum in
     let small : v < 36 = omega (arith, eqb-false v 36 e) in
     let h = has-character v small in
-    let sums : (sum + valueOf (characterOf v)) % 37 ≡ 0 = rw (h .1) (reaches sum) in
-    (completes t (characterOf v) sum w (h .0) sums,
-     λ d c.
-     let k = completion t d c in
-     let same : valueOf d ≡ v = short (weightedSum eic 0 t) (valueOf d) (below 15 d (k .lawful)) (k .sums) ∙ ap shortOf (w .sums) in
-     distinct 15 15 d (characterOf v) (k .lawful) (h .0) (same ∙ sym (h .1)))
+    let sums : (sum + valueOf (characterOf v)) % 37 ≡ 0 = rw (h .1) (reaches sum) in (
+      completes t (characterOf v) sum w (h .0) sums,
+      λ d c.
+          let k = completion t d c in
+          let same : valueOf d ≡ v = short (weightedSum eic 0 t) (valueOf d) (below 15 d (k .lawful)) (k .sums) ∙ ap shortOf (w .sums) in
+          distinct 15 15 d (characterOf v) (k .lawful) (h .0) (same ∙ sym (h .1)),
+    )
 
 by-sum : (t : Text) (r : Result ℕ Refusal) → sumOf 15 t ≡ r → OnlyCompletion t (onward r completing)
 by-sum t (Ok sum) e = by-value t sum (sum-parts 15 sum t e) (eqb (shortOf sum) 36) refl

@@ -81,7 +81,12 @@ impl Code {
         let mut rest = [0; 12];
         rest.copy_from_slice(middle);
         let office = Office::of(*first, *second);
-        Parts { office, kind, rest, check: *check }
+        Parts {
+            office,
+            kind,
+            rest,
+            check: *check,
+        }
     }
 }
 

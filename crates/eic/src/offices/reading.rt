@@ -45,7 +45,9 @@ impl Office {
         requires { ⌜ isOffice (first ∷ (second ∷ [])) ≡ true ⌝ }
         ensures { λ r. ⌜ officeText r ≡ first ∷ (second ∷ []) ⌝ }
     {
-        Office { characters: [first, second] }
+        Office {
+            characters: [first, second],
+        }
     }
 
     // Its two characters.

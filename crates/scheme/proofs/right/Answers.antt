@@ -19,9 +19,9 @@ returns-in-Ok g c =
     let told : _≡_ {A = Result ℕ ℕ} (Ok (c .in-Ok .sum)) (weighed s t) = c .in-Ok .ensures tt .is in
     let long : length t ≡ s .places = omega arith in
     let decides : eqb (c .in-Ok .sum % c .modulus .result) 0 ≡ isRight s t =
-        ap (λ (n : ℕ). eqb (c .in-Ok .sum % n) 0) (c .modulus .ensures)
-        ∙ ap (isMultiple (s .modulus)) told
-        ∙ sym (ap (λ (b : Bool). b && isMultiple (s .modulus) (weighed s t)) (eq-eqb (length t) (s .places) long)) in
+    ap (λ (n : ℕ). eqb (c .in-Ok .sum % n) 0) (c .modulus .ensures)
+    ∙ ap (isMultiple (s .modulus)) told
+    ∙ sym (ap (λ (b : Bool). b && isMultiple (s .modulus) (weighed s t)) (eq-eqb (length t) (s .places) long)) in
     record {
       decides = decides;
       catches = λ e. catches-one s (m .below) (m .distinct) (m .telling) t (sym decides ∙ e);

@@ -30,11 +30,12 @@ loop-i-again g c =
     let value = told .1 in
     let product : c .weight .result * c .in-Some .value ≡ s .weight i * s .value (getD t i 0) = cc in
     let small : c .weight .result * c .in-Some .value ≤ 255 * 255 = mul-le (c .weight .result) (c .in-Some .value) 255 255 (omega arith) (omega arith) in
-    let placed : i < s .places = g .S·CheckScheme·met .placed i (getD t i 0) (told .0) in
-    (omega (arith, sum-more s t i (c .loop-i-test .taken)),
-     sym (unlawful-more s t i (c .loop-i-test .taken) (told .0)) ∙ c .loop-i .inv .1,
-     omega arith,
-     omega arith)
+    let placed : i < s .places = g .S·CheckScheme·met .placed i (getD t i 0) (told .0) in (
+      omega (arith, sum-more s t i (c .loop-i-test .taken)),
+      sym (unlawful-more s t i (c .loop-i-test .taken) (told .0)) ∙ c .loop-i .inv .1,
+      omega arith,
+      omega arith,
+    )
 
 pub returns : need.returns
 returns g c =

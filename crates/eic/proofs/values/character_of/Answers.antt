@@ -11,7 +11,7 @@ one-character : (b v : ℕ) → v < 37 → valueOf b ≡ v → b ≡ characterOf
 one-character b v h e = grind (arith, tells)
 
 -- and each value below 37 has one
-has-character : (v : ℕ) → v < 37 → (characterOf v < 128) × (valueOf (characterOf v) ≡ v)
+has-character : (v : ℕ) → v < 37 → (characterOf v < 91) × (valueOf (characterOf v) ≡ v)
 has-character v h = (grind (arith, tells), grind (arith, tells))
 
 pub returns-then-value-of-value : need.returns-then-value-of-value
