@@ -32,8 +32,7 @@ impl Code {
         ensures sound { λ r. ⌜ isOk r ≡ isSound (now (text .entry)) ⌝ }
         ensures misread { λ r. ⌜ (isOk r ≡ true → CatchesMisread eic (now (text .entry))) ⌝ }
     {
-        let sum = sum_of(16, text)?;
-        sealed(text, sum)
+        sealed(text, sum_of(16, text)?)
     }
 
     // Form, then office, then check character.

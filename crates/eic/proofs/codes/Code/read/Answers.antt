@@ -13,7 +13,7 @@ pub returns : need.returns
 returns c =
     let t = c .args .text .now in
     let r = c .sealed .result in
-    let is : viewed codeText r ≡ readCode t = c .sealed .ensures ∙ ap (λ z. onward z (checked t)) (c .in-Continue-sum .ensures tt) in
+    let is : viewed codeText r ≡ readCode t = c .sealed .ensures ∙ ap (λ z. onward z (checked t)) (c .in-Continue-sum-of .ensures tt) in
     let sound : isOk r ≡ isSound t = sym (viewed-ok codeText r) ∙ ap isOk is ∙ read-sound t in
     record {
       is = is;
