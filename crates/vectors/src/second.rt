@@ -77,5 +77,9 @@ pub fn ean(text: &[u8]) -> u32 {
             needed = needed.saturating_add(last).saturating_add(last) % 10;
         }
     }
-    if (10 - needed % 10) % 10 == last { 0 } else { 9 }
+    if (10 - needed % 10) % 10 == last {
+        0
+    } else {
+        9
+    }
 }
