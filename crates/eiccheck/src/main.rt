@@ -2,7 +2,7 @@
 mod verdicts;
 
 use eic::codes::Code;
-use feed::LineBuffer;
+use feed::lines::LineReader;
 use grounds::Ground;
 use grounds::Refusal;
 use std::io;
@@ -66,38 +66,18 @@ fn answer<W: Write>(out: &mut W, number: u64, text: &[u8]) -> io::Result<()> {
     out.write_all(b"\n")
 }
 
-// Answers each line that ends in this piece of the input, and tells how many lines there were so far.
-fn answer_piece<W: Write>(
-    out: &mut W,
-    line: &mut LineBuffer<KEPT>,
-    count: u64,
-    piece: &[u8],
-) -> io::Result<u64> {
-    let mut number = count;
-    let mut rest = piece;
-    while let Some(done) = line.fill(rest) {
-        number = number.saturating_add(1);
-        answer(out, number, line.line())?;
-        line.clear();
-        rest = &rest[done..];
-    }
-    Ok(number)
-}
-
 fn run<R: Read, W: Write>(input: &mut R, out: &mut W) -> io::Result<()> {
-    let mut line = LineBuffer::<KEPT>::new();
-    let mut count = 0;
-    let mut piece = [0; 4096];
+    let mut lines = LineReader::<KEPT>::new();
+    let mut number: u64 = 0;
     for _ in 0..u64::MAX {
-        let n = input.read(&mut piece)?;
-        if n == 0 {
+        if lines.is_drained() {
+            out.flush()?;
+        }
+        if !lines.read_next(input)? {
             break;
         }
-        count = answer_piece(out, &mut line, count, &piece[0..n])?;
-        out.flush()?;
-    }
-    if !line.line().is_empty() {
-        answer(out, count.saturating_add(1), line.line())?;
+        number = number.saturating_add(1);
+        answer(out, number, lines.line())?;
     }
     out.flush()
 }

@@ -11,7 +11,7 @@ use Rattle.std.proofs.shelf.Tests.{eq-eqb, ne-eqb, cond-true, cond-false}
 use Rattle.std.specs.declared.option.Option.{Option}
 use Rattle.std.specs.declared.option.Option.the-variants.{Some, None}
 use Rattle.rulebook.specs.Texts.{Text}
-use Rattle.rulebook.specs.Lines.{toEnd, afterEnd}
+use Rattle.rulebook.specs.Lines.{toEnd, afterEnd, linesAfter}
 
 -- a cut that is made again is made once
 pub take-front : (n : ℕ) (xs zs : Text) → take n (take n xs ++ zs) ≡ take n (xs ++ zs)
@@ -55,3 +55,14 @@ pub kept-more : (n b : ℕ) (before after rest now : Text) → after ≡ take n 
 kept-more n b before after rest now a e =
     ap (λ (k : Text). take n (k ++ rest)) a ∙ take-front n (before ++ (b ∷ [])) rest
     ∙ ap (take n) (append-assoc before (b ∷ []) rest ∙ ap (λ (m : Text). before ++ m) (sym e))
+
+-- the lines to come, one byte on and at the end of a line or of the piece
+module _ (n : ℕ) (line t more : Text) (i : ℕ) where
+  pub lines-end : i < length t → getD t i 0 ≡ 10 → linesAfter n line (drop i t ++ more) ≡ line ∷ linesAfter n [] (drop (i + 1) t ++ more)
+  lines-end h e = at-drop-more (λ (l : Text). linesAfter n line (l ++ more)) t i 0 h ∙ cond-true _ _ _ (eq-eqb (getD t i 0) 10 e)
+
+  pub lines-on : i < length t → (getD t i 0 ≡ 10 → ⊥) → linesAfter n line (drop i t ++ more) ≡ linesAfter n (take n (line ++ (getD t i 0 ∷ []))) (drop (i + 1) t ++ more)
+  lines-on h e = at-drop-more (λ (l : Text). linesAfter n line (l ++ more)) t i 0 h ∙ cond-false _ _ _ (ne-eqb (getD t i 0) 10 e)
+
+  pub lines-done : length t ≤ i → linesAfter n line (drop i t ++ more) ≡ linesAfter n line more
+  lines-done h = at-drop-all (λ (l : Text). linesAfter n line (l ++ more)) t i h

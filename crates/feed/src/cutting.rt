@@ -1,5 +1,6 @@
 // Fills a line buffer from an input, piece by piece.
 ghost use Prim.Native.Nat.{_<_, _≤_};
+ghost use Rattle.feed.specs.Cuts.{Cuts};
 ghost use Rattle.feed.specs.Kept.{kept};
 ghost use Rattle.rulebook.specs.Lines.{afterEnd, toEnd};
 ghost use Rattle.std.specs.Options.{Cases as BySome};
@@ -49,6 +50,7 @@ impl<const N: usize> LineBuffer<N> {
     pub fn fill(&mut self, input: &[u8]) -> Option<usize>
         ensures bound { λ r. ⌜ BySome r (Unit {0}) (λ n. (0 < n) × (n ≤ length (now (input .entry)))) ⌝ }
         ensures done { λ r. ⌜ r ≡ afterEnd 0 (now (input .entry)) ⌝ }
+        ensures cuts { λ r. ⌜ Cuts N (kept (now (self .entry))) (now (input .entry)) r (kept (now (self .exit))) ⌝ }
         ensures line { λ _. ⌜ kept (now (self .exit)) ≡ take N (kept (now (self .entry)) ++ toEnd (now (input .entry))) ⌝ }
     {
         for (i, byte) in input.iter().enumerate() {

@@ -4,6 +4,7 @@ ghost use lib.ListN.{length};
 ghost use mathlib.Core.Path.{_≡_};
 
 pub mod cutting;
+pub mod lines;
 
 // The first N bytes of the line that is being read. A further byte of the line is passed over, so
 // a line that is kept whole has fewer than N bytes or exactly N, and with N one over a limit a kept

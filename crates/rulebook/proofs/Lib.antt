@@ -5,4 +5,5 @@ pub mod Catching
 pub mod EicLaws
 pub mod Reading
 pub mod Completing
+pub mod Own
 pub mod Worked

@@ -4,5 +4,10 @@ pub mod Schemes
 pub mod Misreading
 pub mod Codes
 pub mod Articles
+pub mod Dates
+pub mod Fields
+pub mod Records
+pub mod Requests
+pub mod Answers
 pub mod Gateway
 pub mod Cases

@@ -1,6 +1,6 @@
 // A code, read from its characters, given back and taken apart.
 ghost use Rattle.eic.specs.Views.{codeText, officeText, wholeText};
-ghost use Rattle.rulebook.specs.Codes.{checked, completed, eic, isSound, readCode, readCodeFor, sumOf};
+ghost use Rattle.rulebook.specs.Codes.{checked, completed, eic, isParty, isSound, readCode, readCodeFor, sumOf};
 ghost use Rattle.rulebook.specs.Misreading.{CatchesMisread};
 ghost use Rattle.rulebook.specs.Texts.{viewed};
 ghost use Rattle.std.specs.Results.{isOk};
@@ -62,6 +62,13 @@ impl Code {
         ensures long { λ r. ⌜ length (now r) ≡ 16 ⌝ }
     {
         &self.bytes[..]
+    }
+
+    // Whether its type is X, a party.
+    pub fn is_party(&self) -> bool
+        ensures { λ r. ⌜ r ≡ isParty (codeText (now (self .entry))) ⌝ }
+    {
+        self.bytes[2] == Kind::Party.letter()
     }
 
     pub fn parts(&self) -> Parts

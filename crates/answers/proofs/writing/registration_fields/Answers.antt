@@ -1,0 +1,6 @@
+use borrow.Author.Needs.{needs}
+use mathlib.Core.List.{append-assoc, append-nil}
+use Rattle.answers.proofs.writing.registration_fields.Needs as need
+
+pub returns : need.returns
+returns c = record { len = search needs; is = search (needs, append-assoc, append-nil) }

@@ -1,0 +1,3 @@
+// Answer lines: what a caller is told of a record, and of a refusal.
+mod line;
+pub mod writing;

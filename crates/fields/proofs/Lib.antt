@@ -1,0 +1,4 @@
+mod Bytes
+mod Pads
+pub mod Days
+mod Decimals

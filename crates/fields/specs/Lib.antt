@@ -1,0 +1,4 @@
+pub mod Classes
+pub mod Bounded
+pub mod Digits
+pub mod Views
