@@ -1,16 +1,19 @@
 -- The first n of what is kept and what comes after, and an input that is read up to its first byte 10. Assumes nothing.
-use mathlib.Core.Bool.{true, false}
+use mathlib.Core.Bool.{Bool, true, false, cond}
 use mathlib.Core.List.{[], _∷_, _++_, append-assoc}
-use mathlib.Core.Path.{_≡_, _∙_, refl, sym, ap}
-use Prim.Native.Nat.{ℕ, zero, suc, _+_, _<_, _≤_}
+use mathlib.Core.Path.{_≡_, _∙_, refl, sym, ap, subst}
+use Prim.Native.Nat.{ℕ, zero, suc, _+_, _-_, _<_, _≤_}
 use native.Mathlib.Numerals.{add-one}
 use native.Mathlib.Omega.{arith}
 use lib.ListN.{length, take, drop, getD, set}
-use Rattle.std.proofs.shelf.Lists.{at-drop-more, at-drop-all, take-all, take-more-set, take-append-le, length-push, length-take-le, append-nil}
-use Rattle.std.proofs.shelf.Tests.{eq-eqb, ne-eqb, cond-true, cond-false}
+use Rattle.std.proofs.shelf.Lists.{at-drop-more, at-drop-all, take-all, take-more-set, take-append-le, length-push, length-take-le, append-nil, length-drop, drop-drop, drop-take}
+use Rattle.std.proofs.shelf.Tests.{eq-eqb, ne-eqb, cond-true, cond-false, both-ways}
+use lib.Dec.{eqb}
+use Rattle.std.specs.Options.{isSome}
 use Rattle.std.specs.declared.option.Option.{Option}
 use Rattle.std.specs.declared.option.Option.the-variants.{Some, None}
 use Rattle.rulebook.specs.Texts.{Text}
+use Rattle.feed.specs.Readers.{partOf, Next, NextBy}
 use Rattle.rulebook.specs.Lines.{toEnd, afterEnd, linesAfter}
 
 -- a cut that is made again is made once
@@ -66,3 +69,39 @@ module _ (n : ℕ) (line t more : Text) (i : ℕ) where
 
   pub lines-done : length t ≤ i → linesAfter n line (drop i t ++ more) ≡ linesAfter n line more
   lines-done h = at-drop-all (λ (l : Text). linesAfter n line (l ++ more)) t i h
+
+-- a part of a piece: its length, and what is left of it after m bytes
+pub part-length : (piece : Text) (from to : ℕ) → from ≤ to → to ≤ length piece → length (partOf piece from to) ≡ to - from
+part-length piece from to h w = length-take-le (to - from) (drop from piece) (omega (arith, length-drop from piece))
+
+pub part-left : (piece : Text) (from to m : ℕ) → from + m ≤ to → partOf piece (from + m) to ≡ drop m (partOf piece from to)
+part-left piece from to m h =
+    let e : to - from ≡ m + (to - (from + m)) = omega arith in
+    ap (take (to - (from + m))) (sym (drop-drop m from piece)) ∙ sym (ap (λ (k : ℕ). drop m (take k (drop from piece))) e ∙ drop-take m (to - (from + m)) (drop from piece))
+
+-- a line that goes on with another piece
+pub begun-more : (n : ℕ) (unread more next line : Text) → line ≡ take n (unread ++ more) → take n (line ++ next) ≡ take n (unread ++ (more ++ next))
+begun-more n unread more next line e =
+    ap (λ (l : Text). take n (l ++ next)) e ∙ take-front n (unread ++ more) next ∙ ap (take n) (append-assoc unread more next)
+
+-- a text without byte 10 is all before its end
+to-end-by : (i b : ℕ) (bs : Text) (c : Bool) → (afterEnd (suc i) bs ≡ None → toEnd bs ≡ bs) → cond c (Some (suc i)) (afterEnd (suc i) bs) ≡ None → cond c [] (b ∷ toEnd bs) ≡ b ∷ bs
+to-end-by i b bs true f h = let z : _≡_ {A = ℕ} 0 1 = cc in absurd (omega arith)
+to-end-by i b bs false f h = ap (λ (l : Text). b ∷ l) (f h)
+
+to-end-whole : (i : ℕ) (t : Text) → afterEnd i t ≡ None → toEnd t ≡ t
+to-end-whole i [] e = refl
+to-end-whole i (b ∷ bs) e = to-end-by i b bs (eqb b 10) (to-end-whole (suc i) bs) e
+
+none-from : {X : Type 0} (o : Option X) → isSome o ≡ false → o ≡ None
+none-from None e = refl
+none-from (Some x) e = absurd (both-ways true e refl)
+
+-- what was unread has no end, and the line that it began goes on
+pub begun : (n : ℕ) (unread first line more : Text) (some : Bool) (left : Text) → isSome (afterEnd 0 unread) ≡ false →
+    first ≡ take n ([] ++ toEnd unread) → line ≡ take n (first ++ more) → (some ≡ false → line ≡ []) → Next n unread some line left
+begun n unread first line more some left none f l told =
+    let e = none-from (afterEnd 0 unread) none in
+    let u : first ≡ take n unread = f ∙ ap (take n) (to-end-whole 0 unread e) in
+    subst (λ (o : Option ℕ). NextBy o n unread some line left) (sym e)
+    (record { told = told; more = more; begins = l ∙ ap (λ (k : Text). take n (k ++ more)) u ∙ take-front n unread more })

@@ -219,7 +219,7 @@ fn dated(office: &[u8; 2], line: &[u8], long: bool) -> (u8, u8, u8) {
 }
 
 // Number, field and position of the refusal of a line, or zeroes.
-pub fn refusal(office: &[u8; 2], line: &[u8]) -> (u8, u8, u8) {
+pub(crate) fn refusal(office: &[u8; 2], line: &[u8]) -> (u8, u8, u8) {
     if line.is_empty() || line.len() > 194 {
         return (2, 0, 0);
     }

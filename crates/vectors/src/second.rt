@@ -23,7 +23,7 @@ fn fits(place: usize, character: u8) -> bool {
 }
 
 // 0 for a sound code, else the number of the ground.
-pub fn soundness(text: &[u8]) -> u32 {
+pub(crate) fn soundness(text: &[u8]) -> u32 {
     if text.len() != 16 {
         return 6;
     }
@@ -39,14 +39,14 @@ pub fn soundness(text: &[u8]) -> u32 {
     if total == 0 { 0 } else { 8 }
 }
 
-pub fn completed(text: &[u8; 15], last: u8) -> [u8; 16] {
+pub(crate) fn completed(text: &[u8; 15], last: u8) -> [u8; 16] {
     let mut code = [last; 16];
     code[0..15].copy_from_slice(text);
     code
 }
 
 // The check character of fifteen lawful characters, or the number of the ground.
-pub fn check_character(text: &[u8; 15]) -> u32 {
+pub(crate) fn check_character(text: &[u8; 15]) -> u32 {
     for last in b'0'..=b'Z' {
         if soundness(&completed(text, last)) == 0 {
             return u32::from(last);
@@ -61,7 +61,7 @@ pub fn check_character(text: &[u8; 15]) -> u32 {
 }
 
 // 0 for a right EAN-13, else 9.
-pub fn ean(text: &[u8]) -> u32 {
+pub(crate) fn ean(text: &[u8]) -> u32 {
     if text.len() != 13 {
         return 9;
     }
