@@ -13,7 +13,6 @@ use Rattle.std.specs.shelf.Text.{allDigits}
 use Rattle.std.specs.declared.option.Option.{Option}
 use Rattle.std.specs.declared.option.Option.the-variants.{Some, None}
 use Rattle.std.proofs.shelf.Decimals.{digits-decimal}
-use Rattle.std.proofs.shelf.Numerals.{Numerals, numerals-by-fold}
 use Rattle.std.proofs.shelf.Tests.{and-parts, and-right, both-ways, cond-false, ne-eqb}
 use Rattle.rulebook.specs.Texts.{Text, fields, onFirst}
 use Rattle.rulebook.specs.Schemes.{Scheme, firstUnlawful, isRight}
@@ -24,7 +23,7 @@ use Rattle.rulebook.specs.Fields.{allOf, upTo, isNameByte, isDisplayByte, isVat
 use Rattle.rulebook.specs.Records.{statusText, texts}
 use Rattle.rulebook.specs.Answers.{tails, grantedFields}
 use Rattle.rulebook.proofs.Rights.{right-parts}
-use Rattle.fields.specs.Digits.{valueOn}
+use Rattle.fields.proofs.Decimals.{by-digits}
 use Rattle.eic.specs.Views.{codeText}
 use Rattle.eic.specs.declared.codes.Code.{Code}
 use Rattle.fields.specs.Views.{nameText, displayText, vatText, eanText, textOr}
@@ -84,9 +83,6 @@ no-comma-eic i = elim (eqb i 2) as (λ v. cond v (isType 44) (ltb i 16 && (isDig
 
 no-comma-ean : (i : ℕ) → (ltb i 13 && isDigit 44) ≡ false
 no-comma-ean i = and-right (ltb i 13) false refl
-
-by-digits : Numerals (λ t. allDigits t ≡ true) (valueOn 0)
-by-digits = numerals-by-fold _ (search needs) valueOn (search needs)
 
 plain-digits : (t : Text) → allDigits t ≡ true → Plain t
 plain-digits [] e = tt

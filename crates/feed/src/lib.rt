@@ -6,9 +6,8 @@ ghost use mathlib.Core.Path.{_≡_};
 pub mod cutting;
 pub mod lines;
 
-// The first N bytes of the line that is being read. A further byte of the line is passed over, so
-// a line that is kept whole has fewer than N bytes or exactly N, and with N one over a limit a kept
-// line of N bytes is one over the limit.
+// The first N bytes of the line that is being read; its further bytes are passed over. With N one
+// over a limit, a line over the limit is kept as one of N bytes.
 #[derive(Drop)]
 pub struct LineBuffer<const N: usize> {
     bytes: [u8; N],

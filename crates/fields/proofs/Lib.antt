@@ -1,4 +1,4 @@
 mod Bytes
 mod Pads
-pub mod Days
-mod Decimals
+mod Days
+pub mod Decimals
