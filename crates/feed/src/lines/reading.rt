@@ -31,7 +31,8 @@ fn fill_from<const N: usize>(
 
 impl<const N: usize> LineReader<N> {
     pub fn new() -> LineReader<N>
-        ensures { λ r. ⌜ lineOf r ≡ [] ⌝ }
+        ensures line { λ r. ⌜ lineOf r ≡ [] ⌝ }
+        ensures unread { λ r. ⌜ unreadText r ≡ [] ⌝ }
     {
         LineReader {
             line: LineBuffer::new(),
