@@ -9,7 +9,7 @@ use Rattle.rulebook.specs.Codes.{eic}
 use Rattle.rulebook.specs.Dates.{is_earlier}
 use Rattle.rulebook.specs.Records.{Entry}
 use Rattle.rulebook.specs.Entries.{find}
-use Rattle.rulebook.specs.Outcomes.{Action, revised, moved, grounded, moving, held, ground, refusing, is_active, may_name, entry, restated}
+use Rattle.rulebook.specs.Outcomes.{Action, revised, moved, grounded, moving, held, ground_if, refusing, is_active, may_name, entry, restated}
 use Rattle.rulebook.proofs.Reading.{err_ok}
 use Rattle.rulebook.proofs.Rights.{right_parts}
 use Rattle.eic.specs.Views.{code_text}
@@ -41,13 +41,13 @@ module _ (k : Code) (c : Text) (es : List Entry) where
 
 -- ---- a deactivation or reactivation
 restated_by : (o : Option Entry) (a : Action) (d c : Text) (s : Bool) (before after : Entry) → moved None a ≡ Err NotRegistered → Ok s ≡ moving a o → after ≡ unwrap_or o before
-    → onward (moving a o) (λ active. held 3 o (λ e. refusing (ground (is_earlier d e.date) EarlierDate 2) (Ok (revised (entry c active d e.registration)))))
-    ≡ refusing (ground (is_earlier d after.date) EarlierDate 2) (Ok (revised (entry c s d after.registration)))
+    → onward (moving a o) (λ active. held 3 o (λ e. refusing (ground_if (is_earlier d e.date) EarlierDate 2) (Ok (revised (entry c active d e.registration)))))
+    ≡ refusing (ground_if (is_earlier d after.date) EarlierDate 2) (Ok (revised (entry c s d after.registration)))
 restated_by None a d c s before after n m q = absurd (err_ok (sym (m ∙ ap (grounded 3) n)))
 restated_by (Some e) a d c s before after n m q =
-    ap (λ (r : Result Bool Refusal). onward r (λ active. refusing (ground (is_earlier d e.date) EarlierDate 2) (Ok (revised (entry c active d e.registration))))) (sym m)
-    ∙ ap (λ (x : Entry). refusing (ground (is_earlier d x.date) EarlierDate 2) (Ok (revised (entry c s d x.registration)))) (sym q)
+    ap (λ (r : Result Bool Refusal). onward r (λ active. refusing (ground_if (is_earlier d e.date) EarlierDate 2) (Ok (revised (entry c active d e.registration))))) (sym m)
+    ∙ ap (λ (x : Entry). refusing (ground_if (is_earlier d x.date) EarlierDate 2) (Ok (revised (entry c s d x.registration)))) (sym q)
 
 pub restated_is : (es : List Entry) (a : Action) (d c : Text) (s : Bool) (before after : Entry) → moved None a ≡ Err NotRegistered → Ok s ≡ moving a (find c es) → after ≡ unwrap_or (find c es) before
-    → restated es a d c ≡ refusing (ground (is_earlier d after.date) EarlierDate 2) (Ok (revised (entry c s d after.registration)))
+    → restated es a d c ≡ refusing (ground_if (is_earlier d after.date) EarlierDate 2) (Ok (revised (entry c s d after.registration)))
 restated_is es a d c s before after n m q = restated_by (find c es) a d c s before after n m q

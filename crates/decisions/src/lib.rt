@@ -1,4 +1,6 @@
 // What a command comes to, of the records held: granted with a record, or refused.
+#![tactic(auto)]
+
 ghost use Rattle.decisions.specs.Views.{action_of, grant_of};
 ghost use Rattle.eic.specs.Views.{code_text};
 ghost use Rattle.fields.specs.Views.{date_text};

@@ -1,4 +1,6 @@
 // Checks codes, one a line, for a clerk: `eiccheck < FILE`.
+#![tactic(auto)]
+
 mod verdicts;
 
 use eic::codes::Code;

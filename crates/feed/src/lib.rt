@@ -1,4 +1,6 @@
 // Cuts an input that comes in pieces into lines, in bounded memory.
+#![tactic(auto)]
+
 ghost use Rattle.std.specs.Prelude.{◌≡◌, ◌≤◌, length};
 
 pub mod cutting;

@@ -1,4 +1,6 @@
 // The three checks that a gateway written in C calls, each answered by one number.
+#![tactic(auto)]
+
 ghost use Rattle.rulebook.specs.Gateway.{check_character_number, ean_number, soundness};
 ghost use Rattle.std.specs.Prelude.{◌≡◌};
 

@@ -46,7 +46,7 @@ words_of NamedCode = codes "parent or responsible party may not be named"
 words_of NoRoom = codes "store has no room"
 
 -- a refusal on this ground, in this field, at this position
-abbrev pub in_field : ℕ → Ground → ℕ → Refusal
+abbrev pub in_field : (field : ℕ) (ground : Ground) (position : ℕ) → Refusal
 in_field k g p = record { ground = g; field = k; position = p }
 
 abbrev pub is_code_form : Ground → Bool

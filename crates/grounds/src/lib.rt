@@ -1,4 +1,6 @@
 // The grounds on which a call is refused, and what a refusal tells.
+#![tactic(auto)]
+
 ghost use Rattle.grounds.specs.Grounds.{in_field, number_of, refusal_words, words_of};
 ghost use Rattle.std.specs.Prelude.{◌≡◌};
 

@@ -1,4 +1,6 @@
 // Checks a batch of request lines before it is handed in, for a clerk: `linecheck < FILE`.
+#![tactic(auto)]
+
 use answers::writing::write_refusal;
 use eic::codes::Code;
 use eic::offices::Office;

@@ -1,5 +1,7 @@
 // Tests of fields, request lines and answer lines: tables at every bound, and generated lines against
 // a second implementation of the rules.
+#![tactic(auto)]
+
 #[cfg(test)]
 mod answered;
 #[cfg(test)]

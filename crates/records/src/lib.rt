@@ -1,4 +1,6 @@
 // What the register holds of a code.
+#![tactic(auto)]
+
 ghost use Rattle.eic.specs.Views.{code_text};
 ghost use Rattle.fields.specs.Views.{display_text, function_text, object_text};
 ghost use Rattle.records.specs.Views.{entry_of, placeholder};

@@ -1,4 +1,6 @@
 // The register: an office and a store, and the law that holds after every list of calls.
+#![tactic(auto)]
+
 ghost use Rattle.decisions.specs.Views.{grant_of};
 ghost use Rattle.eic.specs.Views.{office_text};
 ghost use Rattle.records.specs.Views.{entry_of};

@@ -10,7 +10,7 @@ use Rattle.rulebook.specs.Dates.{is_earlier}
 use Rattle.rulebook.specs.Records.{RegistrationTexts, Entry}
 use Rattle.rulebook.specs.Requests.{Order, creates, changes, deactivates, reactivates, looks_up, asked}
 use Rattle.rulebook.specs.Entries.{find, Apart, replacing, has_holder}
-use Rattle.rulebook.specs.Outcomes.{Action, creation, change, deactivation, reactivation, moved, moving, grounded, held, ground, first, refusing, other_holder, misfit, entry, Grant, created, revised, shown, Fitting, decided, judged, roomed, outcome, list_by, list_after}
+use Rattle.rulebook.specs.Outcomes.{Action, creation, change, deactivation, reactivation, moved, moving, grounded, held, ground_if, first, refusing, other_holder, misfit, entry, Grant, created, revised, shown, Fitting, decided, judged, roomed, outcome, list_by, list_after}
 use Rattle.rulebook.specs.Histories.{Verdict, verdict_of, order_in, granted_order}
 use Rattle.rulebook.proofs.Reading.{err_ok}
 use Rattle.rulebook.proofs.Own.{same_value, onward_ok}
@@ -56,7 +56,7 @@ passed_by : {X : Type 0} (o : Option Refusal) (r : Result X Refusal) (x : X) →
 passed_by None r x e = (refl, e)
 passed_by (Some f) r x e = err_ok e
 
-clear : {X : Type 0} (b : Bool) (g : Ground) (k : ℕ) (r : Result X Refusal) (x : X) → refusing (ground b g k) r ≡ Ok x → (b ≡ false) × (r ≡ Ok x)
+clear : {X : Type 0} (b : Bool) (g : Ground) (k : ℕ) (r : Result X Refusal) (x : X) → refusing (ground_if b g k) r ≡ Ok x → (b ≡ false) × (r ≡ Ok x)
 clear true g k r x e = err_ok e
 clear false g k r x e = (refl, e)
 
@@ -96,7 +96,7 @@ was_moved a b s (Some y) f g w e =
     let p = w y.active m.0 m.1 in
     (y, refl, p.0, ap (λ (z : Bool). f z y) p.1 ∙ m.2)
 
-same_by : (a b : Bool) → first (ground (not a) OtherHolder 4) (ground (not b) OtherHolder 5) ≡ None → (a ≡ true) × (b ≡ true)
+same_by : (a b : Bool) → first (ground_if (not a) OtherHolder 4) (ground_if (not b) OtherHolder 5) ≡ None → (a ≡ true) × (b ≡ true)
 same_by true true e = (refl, refl)
 same_by true false e = absurd (none_some _ (sym e))
 same_by false b e = absurd (none_some _ (sym e))

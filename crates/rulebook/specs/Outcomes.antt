@@ -55,8 +55,8 @@ held k None f = Err (in_field k NotRegistered 0)
 held k (Some e) f = f e
 
 -- a ground that is met, in field k
-abbrev pub ground : Bool → Ground → ℕ → Option Refusal
-ground b g k = cond b (Some (in_field k g 0)) None
+abbrev pub ground_if : Bool → Ground → ℕ → Option Refusal
+ground_if b g k = cond b (Some (in_field k g 0)) None
 
 -- the first of two grounds that is met
 abbrev pub first : Option Refusal → Option Refusal → Option Refusal
@@ -71,8 +71,8 @@ refusing (Some e) r = Err e
 -- object or function differs from the record's
 unfoldable pub other_holder : RegistrationTexts → RegistrationTexts → Option Refusal
 other_holder r kept =
-    first (ground (not (bytes_eq r.object kept.object)) OtherHolder 4)
-    (ground (not (bytes_eq r.function kept.function)) OtherHolder 5)
+    first (ground_if (not (bytes_eq r.object kept.object)) OtherHolder 4)
+    (ground_if (not (bytes_eq r.function kept.function)) OtherHolder 5)
 
 abbrev pub is_active : Option Entry → Bool
 is_active None = false
@@ -85,9 +85,9 @@ may_name c p es = is_blank p || (is_active (find p es) && not (bytes_eq p c))
 -- display name, parent and responsible party
 unfoldable pub misfit : List Entry → Text → RegistrationTexts → Option Refusal
 misfit es c r =
-    first (ground (has_namesake c r.display es) NameHeld 7)
-    (first (ground (not (may_name c r.parent es)) NamedCode 8)
-    (ground (not (may_name c r.responsible es && (is_blank r.responsible || is_party r.responsible))) NamedCode 9))
+    first (ground_if (has_namesake c r.display es) NameHeld 7)
+    (first (ground_if (not (may_name c r.parent es)) NamedCode 8)
+    (ground_if (not (may_name c r.responsible es && (is_blank r.responsible || is_party r.responsible))) NamedCode 9))
 
 abbrev pub entry : Text → Bool → Text → RegistrationTexts → Entry
 entry c active d r = record { code = c; active = active; date = d; registration = r }
@@ -109,20 +109,20 @@ abbrev pub restated : List Entry → Action → Text → Text → Result Grant R
 restated es a d c =
     onward (moving a (find c es)) (λ active.
     held 3 (find c es) (λ e.
-    refusing (ground (is_earlier d e.date) EarlierDate 2)
+    refusing (ground_if (is_earlier d e.date) EarlierDate 2)
     (Ok (revised (entry c active d e.registration)))))
 
 -- what an order comes to, room aside
 abbrev pub decided : List Entry → Order → Result Grant Refusal
 decided es (creates d c r) =
     onward (moving creation (find c es)) (λ active.
-    refusing (ground (has_holder r.object r.function es) ObjectHasCode 4)
+    refusing (ground_if (has_holder r.object r.function es) ObjectHasCode 4)
     (refusing (misfit es c r)
     (Ok (created (entry c active d r)))))
 decided es (changes d c r) =
     onward (moving change (find c es)) (λ active.
     held 3 (find c es) (λ e.
-    refusing (ground (is_earlier d e.date) EarlierDate 2)
+    refusing (ground_if (is_earlier d e.date) EarlierDate 2)
     (refusing (other_holder r e.registration)
     (refusing (misfit es c r)
     (Ok (revised (entry c active d r)))))))
@@ -136,14 +136,14 @@ judged office es line = onward (asked office line) (decided es)
 
 -- a new record takes room
 abbrev pub roomed : ℕ → Grant → Result Grant Refusal
-roomed room (created e) = refusing (ground (room == 0) NoRoom 0) (Ok (created e))
+roomed room (created e) = refusing (ground_if (room == 0) NoRoom 0) (Ok (created e))
 roomed room (revised e) = Ok (revised e)
 roomed room (shown e) = Ok (shown e)
 
 -- what a line comes to, with an answer buffer of so many bytes
 abbrev pub outcome : Text → List Entry → ℕ → Text → ℕ → Result Grant Refusal
 outcome office es room line size =
-    refusing (ground (nat_lt size 200) Buffer 0) (onward (judged office es line) (roomed room))
+    refusing (ground_if (nat_lt size 200) Buffer 0) (onward (judged office es line) (roomed room))
 
 -- the record that the answer to a granted line tells
 abbrev pub entry_in : Grant → Entry

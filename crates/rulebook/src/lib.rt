@@ -1,5 +1,7 @@
 // The office's rulebook: every definition that a contract cites is a chapter of specs/. The calls here
 // carry what is proved of the definitions alone.
+#![tactic(auto)]
+
 ghost use Rattle.rulebook.specs.Cases.{AllSettled, cases};
 ghost use Rattle.rulebook.specs.Sessions.{HistorySettled, SessionSettled, session};
 ghost use Rattle.std.specs.Prelude.{◌≡◌, length};

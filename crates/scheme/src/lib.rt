@@ -1,4 +1,6 @@
 // Schemes of check characters: what one is, the one check for all of them, and what each catches.
+#![tactic(auto)]
+
 ghost use Rattle.std.specs.Prelude.{◌≡◌, ◌<◌, ◌≤◌, true, false, length, MatchOption, MatchResult};
 ghost use Rattle.rulebook.specs.Misreading.{CatchesMisread};
 ghost use Rattle.rulebook.specs.Schemes.{Below, CatchesOne, DifferencesApart, Distinct, Placed, PrimeModulus, Scheme, SumsApart, Telling, is_right, weighed};

@@ -1,7 +1,7 @@
 use Rattle.std.proofs.Common.{Bool, Ok, Err, Result, sym, ap, ◌∙◌}
 use Rattle.grounds.specs.declared.Ground.TheVariants.{EarlierDate}
 use Rattle.grounds.specs.declared.Refusal.{Refusal}
-use Rattle.rulebook.specs.Outcomes.{Grant, revised, ground, refusing, entry}
+use Rattle.rulebook.specs.Outcomes.{Grant, revised, ground_if, refusing, entry}
 use Rattle.eic.specs.Views.{code_text}
 use Rattle.fields.specs.Views.{date_text}
 use Rattle.records.specs.Views.{entry_of, is_active}
@@ -16,7 +16,7 @@ returns-then-is-before g c =
     let held = entry_of c.status-after.new.held in
     let s = is_active c.in-ok-status.status in
     let done : Result Grant Refusal = Ok (revised (entry k s d held.registration)) in
-    ap (λ (e : Refusal). Err e) c.in-field.ensures ∙ ap (λ (b : Bool). refusing (ground b EarlierDate 2) done) c.if-is-before.ensures
+    ap (λ (e : Refusal). Err e) c.in-field.ensures ∙ ap (λ (b : Bool). refusing (ground_if b EarlierDate 2) done) c.if-is-before.ensures
     ∙ sym (restated_is (g.S.Store.entries c.args.store.now) (action_of c.args.action) d k s (entry_of c.placeholder-held.result) held c.requires c.in-ok-status.ensures.told c.in-ok-status.ensures.shown)
 
 pub returns : goal.returns
@@ -26,5 +26,5 @@ returns g c =
     let held = entry_of c.status-after.new.held in
     let s = is_active c.in-ok-status.status in
     let done : Result Grant Refusal = Ok (revised (entry k s d held.registration)) in
-    ap (λ (b : Bool). refusing (ground b EarlierDate 2) done) c.if-is-before.ensures
+    ap (λ (b : Bool). refusing (ground_if b EarlierDate 2) done) c.if-is-before.ensures
     ∙ sym (restated_is (g.S.Store.entries c.args.store.now) (action_of c.args.action) d k s (entry_of c.placeholder-held.result) held c.requires c.in-ok-status.ensures.told c.in-ok-status.ensures.shown)
