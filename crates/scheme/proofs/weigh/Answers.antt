@@ -4,12 +4,12 @@ use Rattle.rulebook.specs.Schemes.{weighted_sum, first_unlawful, unless_at}
 use Rattle.rulebook.proofs.Sums.{sum_more, sum_all, unlawful_more, unlawful_here, unlawful_all}
 use Rattle.scheme.proofs.weigh.Goals as goal
 
-pub returns-in-default : goal.returns-in-default
-returns-in-default g c =
+pub returns-in_default : goal.returns-in_default
+returns-in_default g c =
     let s = g.S.CheckScheme.rules in
     let t = c.args.text.now in
     let i = c.loop-i.i in
-    let first : first_unlawful s 0 t ≡ Some (i + 1) = sym c.loop-i.invariant.1 ∙ unlawful_here s t i c.loop-i-test.true c.in-default.ensures in
+    let first : first_unlawful s 0 t ≡ Some (i + 1) = sym c.loop-i.invariant.1 ∙ unlawful_here s t i c.loop-i-test.true c.in_default.ensures in
     record {
       is = sym (ap (λ (o : Option ℕ). unless_at o (weighted_sum s 0 t)) first);
       bound = (omega arith, omega arith);

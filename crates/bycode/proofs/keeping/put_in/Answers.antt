@@ -8,11 +8,11 @@ use Rattle.bycode.proofs.keeping.put_in.Goals as goal
 pub bounds-rows-p : goal.bounds-rows-p
 bounds-rows-p c = let h = (found (code_text c.args.from.now.code) c.args.used c.args.rows.now (omega (arith, c.requires.within)) c.requires.order c.in-Ok.p c.args.from.now c.in-Ok.ensures).2 in omega (arith, c.requires.within)
 
-pub offset-bounds-rows-p : goal.offset-bounds-rows-p
-offset-bounds-rows-p c = let h : c.in-Ok.p < length c.args.rows.now = (let z = (found (code_text c.args.from.now.code) c.args.used c.args.rows.now (omega (arith, c.requires.within)) c.requires.order c.in-Ok.p c.args.from.now c.in-Ok.ensures).2 in omega (arith, c.requires.within)) in search rules
+pub offset_bounds-rows-p : goal.offset_bounds-rows-p
+offset_bounds-rows-p c = let h : c.in-Ok.p < length c.args.rows.now = (let z = (found (code_text c.args.from.now.code) c.args.used c.args.rows.now (omega (arith, c.requires.within)) c.requires.order c.in-Ok.p c.args.from.now c.in-Ok.ensures).2 in omega (arith, c.requires.within)) in search rules
 
-pub open-at-requires : goal.open-at-requires
-open-at-requires c =
+pub open_at-requires : goal.open_at-requires
+open_at-requires c =
     let w = c.requires.within in
     let m = missed (code_text c.args.from.now.code) c.args.used c.args.rows.now (omega arith) c.requires.order c.in-Err.p c.in-Err.ensures in
     let e = m.1 in

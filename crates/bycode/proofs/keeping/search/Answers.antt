@@ -8,13 +8,13 @@ pub returns-then-p-used : goal.returns-then-p-used
 returns-then-p-used c =
     sym (located_past (code_text c.args.code.now) c.args.used c.args.rows.now c.requires.within c.requires.order c.place-p.result c.place-p.ensures c.if-p-used.true)
 
-pub returns-then-is-same : goal.returns-then-is-same
-returns-then-is-same c =
+pub returns-then-is_same : goal.returns-then-is_same
+returns-then-is_same c =
     let p = c.place-p.result in
     let lt : p < c.args.used = omega arith in
-    sym (located_here (code_text c.args.code.now) c.args.used c.args.rows.now c.requires.within c.requires.order p c.index-rows-p.result c.place-p.ensures lt (same_true _ _ (sym c.if-is-same.ensures)))
+    sym (located_here (code_text c.args.code.now) c.args.used c.args.rows.now c.requires.within c.requires.order p c.index-rows-p.result c.place-p.ensures lt (same_true _ _ (sym c.if-is_same.ensures)))
 
-pub returns-else-is-same : goal.returns-else-is-same
-returns-else-is-same c =
+pub returns-else-is_same : goal.returns-else-is_same
+returns-else-is_same c =
     let p = c.place-p.result in
-    sym (located_other (code_text c.args.code.now) c.args.used c.args.rows.now c.requires.within c.requires.order p c.index-rows-p.result c.place-p.ensures (λ lt q. same_false _ _ (sym c.if-is-same.ensures) q))
+    sym (located_other (code_text c.args.code.now) c.args.used c.args.rows.now c.requires.within c.requires.order p c.index-rows-p.result c.place-p.ensures (λ lt q. same_false _ _ (sym c.if-is_same.ensures) q))

@@ -7,14 +7,14 @@ use Rattle.bycode.proofs.scanning.any_holder.Goals as goal
 pub loop-k-init : goal.loop-k-init
 loop-k-init c = refl
 
-pub returns-then-is-holder : goal.returns-then-is-holder
+pub returns-then-is_holder : goal.returns-then-is_holder
 unfolding has_holder
-returns-then-is-holder c =
-    sym (row_hit (is_holder (object_text c.args.object.now) (function_text c.args.function.now)) c.args.used c.args.rows.now c.requires c.loop-k.k c.index-rows-k.result (omega arith) c.index-rows-k.is c.if-is-holder.ensures) ∙ c.loop-k.invariant
+returns-then-is_holder c =
+    sym (row_hit (is_holder (object_text c.args.object.now) (function_text c.args.function.now)) c.args.used c.args.rows.now c.requires c.loop-k.k c.index-rows-k.result (omega arith) c.index-rows-k.is c.if-is_holder.ensures) ∙ c.loop-k.invariant
 
 pub loop-k-preserved : goal.loop-k-preserved
 loop-k-preserved c =
-    sym (row_miss (is_holder (object_text c.args.object.now) (function_text c.args.function.now)) c.args.used c.args.rows.now c.requires c.loop-k.k c.index-rows-k.result (omega arith) c.index-rows-k.is c.if-is-holder.ensures) ∙ c.loop-k.invariant
+    sym (row_miss (is_holder (object_text c.args.object.now) (function_text c.args.function.now)) c.args.used c.args.rows.now c.requires c.loop-k.k c.index-rows-k.result (omega arith) c.index-rows-k.is c.if-is_holder.ensures) ∙ c.loop-k.invariant
 
 pub returns : goal.returns
 unfolding has_holder

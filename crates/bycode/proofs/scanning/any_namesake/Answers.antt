@@ -8,14 +8,14 @@ use Rattle.bycode.proofs.scanning.any_namesake.Goals as goal
 pub loop-k-init : goal.loop-k-init
 loop-k-init c = refl
 
-pub returns-then-is-namesake : goal.returns-then-is-namesake
+pub returns-then-is_namesake : goal.returns-then-is_namesake
 unfolding has_namesake
-returns-then-is-namesake c =
-    sym (row_hit (is_namesake (code_text c.args.code.now) (display_text c.args.display.now)) c.args.used c.args.rows.now c.requires c.loop-k.k c.index-rows-k.result (omega arith) c.index-rows-k.is c.if-is-namesake.ensures) ∙ c.loop-k.invariant
+returns-then-is_namesake c =
+    sym (row_hit (is_namesake (code_text c.args.code.now) (display_text c.args.display.now)) c.args.used c.args.rows.now c.requires c.loop-k.k c.index-rows-k.result (omega arith) c.index-rows-k.is c.if-is_namesake.ensures) ∙ c.loop-k.invariant
 
 pub loop-k-preserved : goal.loop-k-preserved
 loop-k-preserved c =
-    sym (row_miss (is_namesake (code_text c.args.code.now) (display_text c.args.display.now)) c.args.used c.args.rows.now c.requires c.loop-k.k c.index-rows-k.result (omega arith) c.index-rows-k.is c.if-is-namesake.ensures) ∙ c.loop-k.invariant
+    sym (row_miss (is_namesake (code_text c.args.code.now) (display_text c.args.display.now)) c.args.used c.args.rows.now c.requires c.loop-k.k c.index-rows-k.result (omega arith) c.index-rows-k.is c.if-is_namesake.ensures) ∙ c.loop-k.invariant
 
 pub returns : goal.returns
 unfolding has_namesake

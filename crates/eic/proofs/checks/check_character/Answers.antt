@@ -7,5 +7,5 @@ use Rattle.eic.proofs.checks.check_character.Goals as goal
 pub returns : goal.returns
 returns c =
     let t = c.args.text.now in
-    let is = c.found-character.ensures in
+    let is = c.found_character.ensures in
     record { is = is; only = subst (λ (r : Result ℕ Refusal). OnlyCompletion t r) (sym is) (only_completion t) }

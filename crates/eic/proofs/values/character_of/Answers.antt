@@ -11,9 +11,9 @@ one_character b v h e = grind (arith, nat_tests)
 has_character : (v : ℕ) → v < 37 → (character_of v < 91) × (value_of (character_of v) ≡ v)
 has_character v h = (grind (arith, nat_tests), grind (arith, nat_tests))
 
-pub returns-then-value-of-value : goal.returns-then-value-of-value
-returns-then-value-of-value c =
-    one_character c.loop-character.character c.args.value c.requires (sym c.value-of.ensures ∙ c.if-value-of-value.true)
+pub returns-then-value_of-value : goal.returns-then-value_of-value
+returns-then-value_of-value c =
+    one_character c.loop-character.character c.args.value c.requires (sym c.value_of.ensures ∙ c.if-value_of-value.true)
 
 pub unreachable-requires : goal.unreachable-requires
 unreachable-requires c =

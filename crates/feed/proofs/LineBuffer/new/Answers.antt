@@ -2,5 +2,5 @@ use Rattle.std.proofs.Common.{zero-le}
 use Rattle.std.proofs.lemmas.List.{length-replicate}
 use Rattle.feed.proofs.LineBuffer.new.Goals as goal
 
-pub invariant-of-result : goal.invariant-of-result
-invariant-of-result g c = (zero-le, (length-replicate g.row.N 0, tt))
+pub invariant_of-result : goal.invariant_of-result
+invariant_of-result g c = record { within = zero-le; long = length-replicate g.row.N 0 }

@@ -8,6 +8,6 @@ returns-in-Err g c =
     let e = c.in-Err.ensures in
     record {
       answered = answered (state_of g.S.Store.entries g.S.Store.room c.args.self.now) (state_of g.S.Store.entries g.S.Store.room c.perform.new.self)
-          c.args.line.now c.args.buffer.now (Err c.in-Err.refusal) c.write-refusal.result c.write-refusal.new.buffer e.comes c.write-refusal.ensures.told c.write-refusal.ensures.filled;
+          c.args.line.now c.args.buffer.now (Err c.in-Err.refusal) c.write_refusal.result c.write_refusal.new.buffer e.comes c.write_refusal.ensures.told c.write_refusal.ensures.filled;
       refused = e.refused;
     }

@@ -13,5 +13,5 @@ returns g c =
     let es = g.S.Store.entries c.args.self.now.store in
     let office = office_text c.args.self.now.office in
     let told : viewed grant_of c.decide.result ≡ judged office es c.args.line.now =
-    c.decide.ensures ∙ ap (λ (r : Result Order Refusal). onward r (decided es)) c.in-ok-command.ensures.is in
+    c.decide.ensures ∙ ap (λ (r : Result Order Refusal). onward r (decided es)) c.in_ok-command.ensures.is in
     record { told = told; fits = judged_made office es c.args.line.now c.decide.result told }

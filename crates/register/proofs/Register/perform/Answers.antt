@@ -12,9 +12,9 @@ use Rattle.register.proofs.Register.perform.Goals as goal
 pub returns : goal.returns
 returns g c =
     let s = state_of g.S.Store.entries g.S.Store.room c.args.self.now in
-    let s' = state_of g.S.Store.entries g.S.Store.room c.carry-out.new.self in
+    let s' = state_of g.S.Store.entries g.S.Store.room c.carry_out.new.self in
     record {
-      comes = subst (λ (o : Result rules.Grant Refusal). Comes o s (viewed entry_of c.carry-out.result) s')
-          (outcome_is s c.args.line.now c.args.size (grant_of c.in-ok-grant.grant) c.if-size-lt200.false c.in-ok-grant.ensures.told) c.carry-out.ensures.comes;
-      refused = c.carry-out.ensures.refused;
+      comes = subst (λ (o : Result rules.Grant Refusal). Comes o s (viewed entry_of c.carry_out.result) s')
+          (outcome_is s c.args.line.now c.args.size (grant_of c.in_ok-grant.grant) c.if-size-lt200.false c.in_ok-grant.ensures.told) c.carry_out.ensures.comes;
+      refused = c.carry_out.ensures.refused;
     }

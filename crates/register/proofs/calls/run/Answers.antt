@@ -16,13 +16,13 @@ loop-call-preserved g c =
     let cs = c.loop-call.calls in
     let i = c.loop-call.call-index in
     let old = c.call-item.result in
-    let new = c.make-call.new.call in
+    let new = c.make_call.new.call in
     let len = c.loop-call.auto.calls in
     let lt : i < length bs = omega arith in
     let inv = c.loop-call.invariant in
-    let e = c.make-call.ensures in
+    let e = c.make_call.ensures in
     let s₀ = state_of g.S.Store.entries g.S.Store.room c.open-register.result in
-    let s' = state_of g.S.Store.entries g.S.Store.room c.make-call.new.register in (
+    let s' = state_of g.S.Store.entries g.S.Store.room c.make_call.new.register in (
       asked_more bs cs i new len lt old c.call-item.is (e.asked ∙ ap asked_by (sym c.call-item.is)) ∙ inv.0,
       rest_more bs cs i new len lt inv.1,
       subst (λ (h : History). Reached s₀ h s') (sym (history_more bs cs i new len lt old))

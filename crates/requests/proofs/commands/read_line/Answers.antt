@@ -4,9 +4,9 @@ use Rattle.eic.specs.Views.{office_text}
 use Rattle.rulebook.proofs.Own.{verbatim}
 use Rattle.requests.proofs.commands.read_line.Goals as goal
 
-pub returns-in-err-request : goal.returns-in-err-request
+pub returns-in_err-request : goal.returns-in_err-request
 unfolding asked
-returns-in-err-request c = record { is = search rules; verbatim = verbatim (office_text c.args.office.now) c.args.line.now }
+returns-in_err-request c = record { is = search rules; verbatim = verbatim (office_text c.args.office.now) c.args.line.now }
 
 pub returns : goal.returns
 unfolding asked

@@ -7,8 +7,8 @@ use Rattle.answers.proofs.line.Line.put.Goals as goal
 pub returns : goal.returns
 returns c =
     let s = c.args.self.now in
-    let e = c.copy-from-slice.ensures.after in
+    let e = c.copy_from_slice.ensures.after in
     record {
       len = refl;
-      is = take-put_mid s.len _ s.bytes c.copy-from-slice.new.self _ (omega (arith, ap length e)) (omega arith) ∙ ap (λ (t : Text). line_text s ++ t) e;
+      is = take-put_mid s.len _ s.bytes c.copy_from_slice.new.self _ (omega (arith, ap length e)) (omega arith) ∙ ap (λ (t : Text). line_text s ++ t) e;
     }

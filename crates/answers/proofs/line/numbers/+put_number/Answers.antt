@@ -5,8 +5,8 @@ use Rattle.answers.specs.Views.{line_text}
 use Rattle.answers.proofs.Lengths.{one_digit, more_digits}
 use Rattle.answers.proofs.line.numbers.+put_number.Goals as goal
 
-pub put-number-requires : goal.put-number-requires
-put-number-requires t c = (omega arith, omega (arith, more_digits c.args.n (omega arith) (omega arith)))
+pub put_number-requires : goal.put_number-requires
+put_number-requires t c = (omega arith, omega (arith, more_digits c.args.n (omega arith) (omega arith)))
 
 pub put-requires : goal.put-requires
 put-requires t c = omega (arith, one_digit c.args.n (omega arith))
@@ -27,5 +27,5 @@ returns t c =
     let last = (48 + n % 10) ∷ [] in
     record {
       len = omega (arith, more_digits n (omega arith) (omega arith));
-      is = c.put-2.ensures.is ∙ ap (λ (l : Text). l ++ last) c.put-number.ensures.is ∙ append_assoc before (decimal (n / 10)) last ∙ ap (λ (d : Text). before ++ d) (sym (decimal_step n (omega arith) (omega arith)));
+      is = c.put-2.ensures.is ∙ ap (λ (l : Text). l ++ last) c.put_number.ensures.is ∙ append_assoc before (decimal (n / 10)) last ∙ ap (λ (d : Text). before ++ d) (sym (decimal_step n (omega arith) (omega arith)));
     }

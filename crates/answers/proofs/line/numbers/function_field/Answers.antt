@@ -2,8 +2,8 @@ use Rattle.std.proofs.Common.{arith, rules}
 use Rattle.answers.proofs.Lengths.{two_digits}
 use Rattle.answers.proofs.line.numbers.function_field.Goals as goal
 
-pub number-field-requires : goal.number-field-requires
-number-field-requires c = omega (arith, two_digits c.number.result (omega arith))
+pub number_field-requires : goal.number_field-requires
+number_field-requires c = omega (arith, two_digits c.number.result (omega arith))
 
 pub returns : goal.returns
 returns c = record { len = omega (arith, two_digits c.number.result (omega arith)); is = search rules }

@@ -16,15 +16,16 @@ same s t e =
     ∙ ap (λ (u : distinct-type s.lent w). record { lent = s.lent; within = w; distinct = u }) (Bool-set (is_distinct (held_in s.lent.used s.lent.rows.now)) true s.distinct u))
     t.within t.distinct
 
-pub invariant-of-self : goal.invariant-of-self
-invariant-of-self c =
+pub invariant_of-self : goal.invariant_of-self
+invariant_of-self c =
     let r = c.args.from.now in
     let s = c.args.self.now in
     let t = c.put.new.self in
-    let e = c.put.ensures.puts in (
-      (kept r s.lent.used s.lent.rows.now s.within (is_ok c.put.result) t.used t.rows.now e).within,
-      (distinct_after r s.lent.used s.lent.rows.now s.within s.distinct (is_ok c.put.result) t.used t.rows.now e, tt),
-    )
+    let e = c.put.ensures.puts in
+    record {
+      within = (kept r s.lent.used s.lent.rows.now s.within (is_ok c.put.result) t.used t.rows.now e).within;
+      distinct = distinct_after r s.lent.used s.lent.rows.now s.within s.distinct (is_ok c.put.result) t.used t.rows.now e;
+    }
 
 pub returns : goal.returns
 returns c =

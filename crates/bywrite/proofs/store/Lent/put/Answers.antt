@@ -9,5 +9,5 @@ returns-in-Err c =
     let n = c.args.self.now.used in
     let xs = c.args.self.now.rows.now in
     let e = c.in-Err.ensures in
-    let a = puts_refused r n xs (renewed xs (place_in r n xs) n r) (set xs n r) c.put-in.new.rows e.told e.rows in
+    let a = puts_refused r n xs (renewed xs (place_in r n xs) n r) (set xs n r) c.put_in.new.rows e.told e.rows in
     record { puts = a.0; refused = λ _. rw a.1; lender = refl }

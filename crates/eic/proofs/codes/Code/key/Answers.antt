@@ -5,4 +5,4 @@ use Rattle.eic.proofs.codes.Code.key.Goals as goal
 pub returns : goal.returns
 returns c =
     let s = c.args.self.now in
-    c.from-be-bytes.ensures ∙ sym (key_is s.bytes (sound_long s.bytes s.sound))
+    c.from_be_bytes.ensures ∙ sym (key_is s.bytes (sound_long s.bytes s.sound))

@@ -31,6 +31,6 @@ returns c =
     let t = c.args.self.now.bytes in
     let letter = same_letter (letter_of c.in-Some.kind) (get_or t 2 0) (is_type (get_or t 2 0)) c.in-Some.ensures in
     let r = right_parts eic t c.args.self.now.sound in
-    let middle = c.copy-from-slice.new.self in
+    let middle = c.copy_from_slice.new.self in
     let tail : Text = letter_of c.in-Some.kind ∷ (middle ++ (get_or (tail_of t) (length (tail_of t) - 1) 0 ∷ [])) in
-    ap (λ (o : Text). o ++ tail) c.of-office.ensures ∙ put_together t middle (letter_of c.in-Some.kind) (omega (arith, r.long)) letter c.copy-from-slice.ensures.after
+    ap (λ (o : Text). o ++ tail) c.of-office.ensures ∙ put_together t middle (letter_of c.in-Some.kind) (omega (arith, r.long)) letter c.copy_from_slice.ensures.after

@@ -11,7 +11,7 @@ pub returns : goal.returns
 returns c =
     let t = c.args.text.now in
     let r = c.sealed.result in
-    let is : viewed code_text r ≡ read_code t = c.sealed.ensures ∙ ap (λ z. onward z (checked t)) c.in-ok-sum-of.ensures in
+    let is : viewed code_text r ≡ read_code t = c.sealed.ensures ∙ ap (λ z. onward z (checked t)) c.in_ok-sum_of.ensures in
     let sound : is_ok r ≡ is_sound t = sym (viewed_ok code_text r) ∙ ap is_ok is ∙ read_sound t in
     record {
       is = is;

@@ -11,9 +11,9 @@ pub returns-then-n-eq0 : goal.returns-then-n-eq0
 returns-then-n-eq0 g c =
     let u = unread_text c.args.self.now in
     let first : line_of c.cut.new.self ≡ take g.row.N ([] ++ to_end u) = c.cut.ensures.line ∙ ap (λ (k : Text). take g.row.N (k ++ to_end u)) c.clear.ensures in
-    begun g.row.N u (line_of c.cut.new.self) (line_of c.loop.self) c.loop.invariant.0 (not c.is-empty.result) _
+    begun g.row.N u (line_of c.cut.new.self) (line_of c.loop.self) c.loop.invariant.0 (not c.is_empty.result) _
     (sym c.cut.ensures.told ∙ c.if-cut.false) first c.loop.invariant.1
-    (λ z. nil_from_length (line_of c.loop.self) (ap length (sym c.line.ensures) ∙ eqb-true (length c.line.result.now) 0 (sym c.is-empty.ensures ∙ not-false c.is-empty.result z)))
+    (λ z. nil_from_length (line_of c.loop.self) (ap length (sym c.line.ensures) ∙ eqb-true (length c.line.result.now) 0 (sym c.is_empty.ensures ∙ not-false c.is_empty.result z)))
 
 pub loop-init : goal.loop-init
 loop-init g c =

@@ -6,4 +6,4 @@ pub returns : goal.returns
 returns c =
     let n = c.in-Some.n in
     let h = c.in-Some.ensures in
-    date_read c.args.text.now n.year n.month n.day h.0 h.1 h.2 h.3 (sym c.is-day-real.ensures ∙ c.if-not-real.false)
+    date_read c.args.text.now n.year n.month n.day h.0 h.1 h.2 h.3 (sym c.is_day-real.ensures ∙ c.if-not-real.false)

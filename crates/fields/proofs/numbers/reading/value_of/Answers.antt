@@ -2,8 +2,8 @@ use Rattle.std.proofs.Common.{◌≡◌, ℕ, ◌+◌, ◌*◌, ◌^◌, sym, ap
 use Rattle.fields.proofs.Decimals.{digit_at, value_more, value_all}
 use Rattle.fields.proofs.numbers.reading.value_of.Goals as goal
 
-pub overflow-sub-n : goal.overflow-sub-n
-overflow-sub-n c = (digit_at c.args.digits.now c.loop-i.i c.requires.1 (omega arith)).0
+pub overflow_sub-n : goal.overflow_sub-n
+overflow_sub-n c = (digit_at c.args.digits.now c.loop-i.i c.requires.1 (omega arith)).0
 
 pub loop-i-preserved : goal.loop-i-preserved
 loop-i-preserved c =

@@ -14,8 +14,8 @@ inside c =
 pub bounds-self-p : goal.bounds-self-p
 bounds-self-p c = inside c
 
-pub offset-bounds-self-p : goal.offset-bounds-self-p
-offset-bounds-self-p c = let h = inside c in search rules
+pub offset_bounds-self-p : goal.offset_bounds-self-p
+offset_bounds-self-p c = let h = inside c in search rules
 
 pub returns-in-Ok : goal.returns-in-Ok
 returns-in-Ok c =
