@@ -3,13 +3,13 @@ use Rattle.std.proofs.lemmas.List.{at_drop_all}
 use Rattle.rulebook.specs.Texts.{Text, fields}
 use Rattle.requests.proofs.Parting.{count_comma, count_other}
 use Rattle.requests.proofs.cutting.count.Goals as goal
-use Rattle.requests.proofs.cutting.count.Goals.{then_byte_eq44, else_byte_eq44}
+use Rattle.requests.proofs.cutting.count.Goals.{then-byte-eq44, else-byte-eq44}
 
 pub loop-byte-preserved : goal.loop-byte-preserved
 loop-byte-preserved c =
     elim c.if-byte-eq44.branch [
-      | then_byte_eq44 w ↦ (omega (arith, w.n-is), omega (arith, w.n-is, count_comma c.args.line.now c.loop-byte.byte-index (omega arith) w.if-byte-eq44.true))
-      | else_byte_eq44 w ↦ (omega (arith, w.n-is), omega (arith, w.n-is, count_other c.args.line.now c.loop-byte.byte-index (omega arith) w.if-byte-eq44.false))
+      | then-byte-eq44 w ↦ (omega (arith, w.n-is), omega (arith, w.n-is, count_comma c.args.line.now c.loop-byte.byte-index (omega arith) w.if-byte-eq44.true))
+      | else-byte-eq44 w ↦ (omega (arith, w.n-is), omega (arith, w.n-is, count_other c.args.line.now c.loop-byte.byte-index (omega arith) w.if-byte-eq44.false))
     ]
 
 pub returns : goal.returns
