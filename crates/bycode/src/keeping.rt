@@ -1,5 +1,5 @@
 // The work on the rows: a record's place is found by halving, and its row rewritten or opened.
-ghost use Rattle.std.specs.Prelude.{◌≡◌, ◌<◌, ◌≤◌, true, length, is_ok};
+ghost use Rattle.std.specs.Prelude.{◌≡◌, ◌<◌, ◌≤◌, true, length, is_ok, IfOk};
 ghost use Rattle.bycode.specs.Order.{is_ascending, located, opened, rows_after, slot};
 ghost use Rattle.eic.specs.Views.{code_text};
 ghost use Rattle.records.specs.Views.{entry_of};
@@ -60,7 +60,7 @@ pub(crate) fn put_in(rows: &mut [Record], used: usize, from: &Record) -> Result<
     requires order { is_ascending (held_in used rows.old) ≡ true }
     ensures told { is_ok result ≡ is_accepted (entry_of from.now) (held_in used rows.old) (room_in used rows.old) }
     ensures rows { rows.new ≡ rows_after from.now used rows.old }
-    ensures used { made result (λ n. n ≡ used_after from.now used rows.old) }
+    ensures used { IfOk result (λ n. n ≡ used_after from.now used rows.old) }
 {
     let code = from.code;
     match search(rows, used, &code) {

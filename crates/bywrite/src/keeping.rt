@@ -1,5 +1,5 @@
 // The work on the rows: a code is looked for from the front, and what is written goes to the end.
-ghost use Rattle.std.specs.Prelude.{◌≡◌, ◌<◌, ◌≤◌, length, is_ok};
+ghost use Rattle.std.specs.Prelude.{◌≡◌, ◌<◌, ◌≤◌, length, is_ok, IfOk};
 ghost use Rattle.bywrite.specs.Places.{place, renewed, rows_after};
 ghost use Rattle.eic.specs.Views.{code_text};
 ghost use Rattle.records.specs.Views.{entry_of};
@@ -39,7 +39,7 @@ pub(crate) fn put_in(rows: &mut [Record], used: usize, from: &Record) -> Result<
     requires { used ≤ limit (length rows.old) }
     ensures told { is_ok result ≡ is_accepted (entry_of from.now) (held_in used rows.old) (room_in used rows.old) }
     ensures rows { rows.new ≡ rows_after from.now used rows.old }
-    ensures used { made result (λ n. n ≡ used_after from.now used rows.old) }
+    ensures used { IfOk result (λ n. n ≡ used_after from.now used rows.old) }
 {
     let code = from.code;
     let p = place(rows, used, &code);

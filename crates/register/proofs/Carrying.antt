@@ -12,7 +12,7 @@ use Rattle.rulebook.specs.Entries.{is_held, replacing}
 use Rattle.rulebook.specs.Stores.{Writes}
 use Rattle.rulebook.specs.Answers.{filled, told_length}
 use Rattle.rulebook.specs.Outcomes as rules
-use Rattle.rulebook.specs.Outcomes.{ground, refusing, Fitting, judged, roomed, entry_in}
+use Rattle.rulebook.specs.Outcomes.{ground_if, refusing, Fitting, judged, roomed, entry_in}
 use Rattle.rulebook.specs.Histories.{State, verdict_of, answer_of, outcome_in, Answered}
 use Rattle.rulebook.proofs.Grants.{judged_fits}
 use Rattle.decisions.specs.Views.{grant_of}
@@ -22,7 +22,7 @@ use Rattle.register.specs.Performing.{Comes, outcome_of}
 -- ---- a new record
 module _ (s s' : State) (x : Entry) (h : is_held x.code s.entries ≡ false) where
   abbrev Roomed : Bool → Result rules.Grant Refusal
-  Roomed b = refusing (ground b NoRoom 0) (Ok (rules.created x))
+  Roomed b = refusing (ground_if b NoRoom 0) (Ok (rules.created x))
 
   -- there is room for it
   pub created_comes : s'.office ≡ s.office → Writes x s.entries s.room true s'.entries s'.room → Comes (roomed s.room (rules.created x)) s (Ok x) s'
@@ -59,7 +59,7 @@ judged_made office es line (Err f) e = tt
 pub outcome_is : (s : State) (line : Text) (size : ℕ) (g : rules.Grant) → 200 ≤ size → Ok g ≡ judged s.office s.entries line → roomed s.room g ≡ outcome_of s line size
 outcome_is s line size g h e =
     ap (λ (r : Result rules.Grant Refusal). onward r (roomed s.room)) e
-    ∙ ap (λ (b : Bool). refusing (ground b Buffer 0) (onward (judged s.office s.entries line) (roomed s.room))) (sym (le-ltb size 200 h))
+    ∙ ap (λ (b : Bool). refusing (ground_if b Buffer 0) (onward (judged s.office s.entries line) (roomed s.room))) (sym (le-ltb size 200 h))
 
 -- ---- the answer
 same_verdict : {X Y : Type 0} (f : X → Y) (r : Result X Refusal) → verdict_of (viewed f r) ≡ verdict_of r

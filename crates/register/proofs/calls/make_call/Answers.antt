@@ -13,12 +13,12 @@ returns-in-Submit g c =
     let n = c.submit-told.result.length in
     let ys = c.submit-told.new.buffer in
     let buffer = c.in-Submit.buffer in
-    let long : length ys ≡ buffer.len = c.submit-told.auto.buffer ∙ c.deref-mut.ensures.len in
+    let long : length ys ≡ buffer.len = c.submit-told.auto.buffer ∙ c.deref_mut.ensures.len in
     record {
       asked = ap asked_by (sym c.in-Submit.is);
       carries = subst (λ (e : Event). Carries (state_of g.S.Store.entries g.S.Store.room c.args.register.now) e (state_of g.S.Store.entries g.S.Store.room c.submit-told.new.self))
-          (ap (λ (t : Text). submitted t c.deref-mut.result.now v n ys) c.deref.ensures.value
-          ∙ ap (λ (t : Text). submitted c.in-Submit.line.items t v n ys) (c.deref-mut.ensures.value ∙ ap buffer_of (sym c.in-Submit.is))
+          (ap (λ (t : Text). submitted t c.deref_mut.result.now v n ys) c.deref.ensures.value
+          ∙ ap (λ (t : Text). submitted c.in-Submit.line.items t v n ys) (c.deref_mut.ensures.value ∙ ap buffer_of (sym c.in-Submit.is))
           ∙ ap (λ (t : Text). submitted c.in-Submit.line.items (buffer_of c.args.call.now) v n t) (sym (with_items_is buffer ys long))
           )
           c.submit-told.ensures.carries;
