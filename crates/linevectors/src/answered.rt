@@ -47,8 +47,8 @@ fn longest_line(rt: HostRuntime) -> Result<(), Fail> {
     let n = write_record(&held, &mut buffer);
     assert_eq!(rt; n, 197);
     assert!(rt; &buffer[0..197] == ANSWER);
-    assert!(rt; &buffer[197..200] == b"###");
-    assert!(rt; held.sign(b"closed") == b"closed");
+    assert!(rt; &buffer[197..200] == b"###".as_slice());
+    assert!(rt; held.sign(b"closed") == b"closed".as_slice());
     Ok(())
 }
 
@@ -80,10 +80,10 @@ fn granted(rt: HostRuntime) -> Result<(), Fail> {
     assert!(rt; n == 78);
     assert!(rt;
         &buffer[0..78]
-            == b"OK,9QXALPHA-------9,A,2026-03-01,17,1,Alpha Energy,ALPHA,,,UA123,4820000000017"
+            == b"OK,9QXALPHA-------9,A,2026-03-01,17,1,Alpha Energy,ALPHA,,,UA123,4820000000017".as_slice()
     );
     assert!(rt; buffer[78] == 0);
-    assert!(rt; held.sign(b"closed") == b"ALPHA");
+    assert!(rt; held.sign(b"closed") == b"ALPHA".as_slice());
     Ok(())
 }
 
@@ -105,6 +105,6 @@ fn short_buffer(rt: HostRuntime) -> Result<(), Fail> {
     assert!(rt; buffer == [b'#'; 199]);
     let mut long = [b'#'; 200];
     assert_eq!(rt; write_refusal(&refusal, &mut long), 10);
-    assert!(rt; &long[0..11] == b"NO,6,11,16#");
+    assert!(rt; &long[0..11] == b"NO,6,11,16#".as_slice());
     Ok(())
 }

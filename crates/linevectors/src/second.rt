@@ -224,13 +224,13 @@ pub(crate) fn refusal(office: &[u8; 2], line: &[u8]) -> (u8, u8, u8) {
         return (2, 0, 0);
     }
     let action = field(line, 0);
-    if action == b"C" || action == b"U" {
+    if action == b"C".as_slice() || action == b"U".as_slice() {
         return dated(office, line, true);
     }
-    if action == b"D" || action == b"R" {
+    if action == b"D".as_slice() || action == b"R".as_slice() {
         return dated(office, line, false);
     }
-    if action != b"L" {
+    if action != b"L".as_slice() {
         return (3, 1, 0);
     }
     if commas(line) != 1 {
