@@ -1,4 +1,4 @@
-// The three checks that a gateway written in C calls, each answered by one number.
+// The three checks that a gateway written in C calls, each answered by one number. The crate gateway_c exports them to C.
 #![tactic(auto)]
 
 ghost use Rattle.rulebook.specs.Gateway.{check_character_number, ean_number, soundness};
@@ -10,8 +10,7 @@ use eic::schemes::is_ean;
 use grounds::Ground;
 
 // 0 for a sound code, else the number of the ground: 6 or 8.
-#[unsafe(no_mangle)]
-pub extern "C" fn eic_soundness(bytes: &[u8]) -> u32
+pub fn eic_soundness(bytes: &[u8]) -> u32
     ensures { result ≡ soundness bytes.now }
 {
     match Code::read(bytes) {
@@ -21,8 +20,7 @@ pub extern "C" fn eic_soundness(bytes: &[u8]) -> u32
 }
 
 // The byte of the check character of fifteen characters, else the number of the ground: 6 or 8.
-#[unsafe(no_mangle)]
-pub extern "C" fn eic_check_character(bytes: &[u8]) -> u32
+pub fn eic_check_character(bytes: &[u8]) -> u32
     ensures { result ≡ check_character_number bytes.now }
 {
     match check_character(bytes) {
@@ -32,8 +30,7 @@ pub extern "C" fn eic_check_character(bytes: &[u8]) -> u32
 }
 
 // 0 for a right EAN-13, else 9.
-#[unsafe(no_mangle)]
-pub extern "C" fn eic_ean(bytes: &[u8]) -> u32
+pub fn eic_ean(bytes: &[u8]) -> u32
     ensures { result ≡ ean_number bytes.now }
 {
     if is_ean(bytes) {
