@@ -1,6 +1,6 @@
 -- Lists of records by their texts: what is held under a code, and what is asked of all records.
 -- A reader has to believe: a code is found by its characters, and every record counts, active or not.
-use Rattle.std.specs.Prelude.{◌≡◌, ℕ, zero, suc, ◌<◌, Bool, false, cond, not, ◌&&◌, ◌||◌, List, [], ◌∷◌, length, is_some, Some, None, Option, ◌==◌, ◌≢◌, slice_index_or}
+use Rattle.std.specs.Prelude.{ℕ, zero, suc, ◌<◌, Bool, false, cond, not, ◌&&◌, ◌||◌, List, [], ◌∷◌, length, is_some, Some, None, Option, ◌==◌, ◌≢◌, slice_index_or}
 use Rattle.std.specs.Str.{bytes_eq}
 use Rattle.rulebook.specs.Texts.{Text}
 use Rattle.rulebook.specs.Codes.{type_of}

@@ -1,7 +1,6 @@
 use Rattle.std.proofs.Common.{◌≡◌, List, [], ◌∷◌, ◌++◌, sym, ap, ◌∙◌, refl, append_assoc, append-nil, rules}
 use Rattle.rulebook.specs.Texts.{Text}
 use Rattle.rulebook.specs.Answers.{tails}
-use Rattle.rulebook.specs.Records.{texts}
 use Rattle.records.specs.Views.{registration_texts}
 use Rattle.answers.proofs.writing.registration_fields.Goals as goal
 
@@ -23,13 +22,13 @@ returns c =
     record {
       len = search rules;
       is =
-        sym (append-nil _)
-        ∙ step _ _ _ r.ean [] c.field-6.ensures.is c.ean_text.ensures.is
-        ∙ step _ _ _ r.vat fs8 c.field-5.ensures.is c.vat_text.ensures.is
-        ∙ step _ _ _ r.responsible fs7 c.field-4.ensures.is c.code_text-2.ensures.is
-        ∙ step _ _ _ r.parent fs6 c.field-3.ensures.is c.code_text.ensures.is
-        ∙ step _ _ _ r.display fs5 c.field-2.ensures.is c.text-2.ensures.is
-        ∙ step _ _ _ r.name fs4 c.field.ensures.is c.text.ensures.is
-        ∙ step _ _ _ r.function fs3 c.function_field.ensures.is refl
-        ∙ step _ _ _ r.object fs2 c.object_field.ensures.is refl;
+          sym (append-nil _)
+          ∙ step _ _ _ r.ean [] c.field-6.ensures.is c.ean_text.ensures.is
+          ∙ step _ _ _ r.vat fs8 c.field-5.ensures.is c.vat_text.ensures.is
+          ∙ step _ _ _ r.responsible fs7 c.field-4.ensures.is c.code_text-2.ensures.is
+          ∙ step _ _ _ r.parent fs6 c.field-3.ensures.is c.code_text.ensures.is
+          ∙ step _ _ _ r.display fs5 c.field-2.ensures.is c.text-2.ensures.is
+          ∙ step _ _ _ r.name fs4 c.field.ensures.is c.text.ensures.is
+          ∙ step _ _ _ r.function fs3 c.function_field.ensures.is refl
+          ∙ step _ _ _ r.object fs2 c.object_field.ensures.is refl;
     }
