@@ -2,7 +2,7 @@
 -- A reader has to believe: nothing here; the rows are held against the definitions, and pin them from outside.
 use Rattle.std.specs.Prelude.{◌≡◌, ℕ, true, List, [], ◌∷◌, ◌++◌, Some, None, Ok, codes, Option}
 use Rattle.grounds.specs.declared.Ground.TheVariants.{CheckCharacter}
-use Rattle.std.specs.List.{AllByRecursion as All}
+use Rattle.std.specs.List.{AllByRecursion}
 use Rattle.rulebook.specs.Texts.{Text, refused}
 use Rattle.rulebook.specs.Schemes.{weighted_sum, is_right}
 use Rattle.rulebook.specs.Codes.{eic, read_code, completed}
@@ -57,7 +57,7 @@ cases =
     ∷ []
 
 abbrev pub Settled : Case → Type 0
-Settled c = All (λ t. SumsTo c.sum t × Found c.finding t) c.texts
+Settled c = AllByRecursion (λ t. SumsTo c.sum t × Found c.finding t) c.texts
 
 abbrev pub AllSettled : Type 0
-AllSettled = All Settled cases
+AllSettled = AllByRecursion Settled cases
