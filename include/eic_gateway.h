@@ -1,6 +1,6 @@
 /* The three checks of the energy code register, for a gateway written in C.
  *
- * Link with the static library that `rt staticlib gateway` writes. Each call reads len bytes at
+ * Link with the static library that `tools/staticlib` builds. Each call reads len bytes at
  * bytes, writes nothing, keeps nothing and always returns. The bytes may be any; with len 0 the
  * pointer is not read, but must not be null.
  */
