@@ -10,8 +10,8 @@ one_digit n h = ap length (decimal_digit n h)
 pub more_digits : (n : ℕ) → 10 ≤ n → n < 2 ^ 64 → length (decimal n) ≡ length (decimal (n / 10)) + 1
 more_digits n h f = ap length (decimal_step n h f) ∙ length_push (decimal (n / 10)) (48 + n % 10)
 
-pub two_digits : (n : ℕ) → n ≤ 99 → length (decimal n) ≤ 2
-two_digits n h = length-decimal-le 2 n (omega arith) (omega arith) (omega arith)
+pub two_digits_lem : (n : ℕ) → n ≤ 99 → length (decimal n) ≤ 2
+two_digits_lem n h = length-decimal-le 2 n (omega arith) (omega arith) (omega arith)
 
 pub three_digits : (n : ℕ) → n < 256 → length (decimal n) ≤ 3
 three_digits n h = length-decimal-le 3 n (omega arith) (omega arith) (omega arith)

@@ -4,9 +4,8 @@ ghost use Rattle.rulebook.specs.Codes.{eic, is_sound};
 ghost use Rattle.rulebook.specs.Misreading.{CatchesMisread};
 ghost use Rattle.rulebook.specs.Schemes.{CatchesOne, is_right};
 ghost use Rattle.std.specs.Prelude.{◌≡◌, true};
+ghost use Rattle.rulebook.proofs.EanLaws;
 ghost use Rattle.rulebook.proofs.EicLaws;
-ghost use Rattle.std.proofs.Common.{rules};
-ghost use Rattle.rulebook.proofs.EicLaws.{differences_apart, sums_apart};
 
 use super::kinds::Kind;
 use super::values::value_of;
@@ -17,9 +16,9 @@ pub struct Eic;
 impl CheckScheme for Eic {
     ghost rules = { eic };
 
-    ghost short = { Prim.search rules };
+    ghost short = { EicLaws.short };
 
-    ghost positive = { Prim.search rules };
+    ghost positive = { EicLaws.positive };
 
     ghost placed = { EicLaws.placed };
 
@@ -56,9 +55,9 @@ impl CheckScheme for Eic {
 impl PairScheme for Eic {
     ghost prime = { EicLaws.prime };
 
-    ghost differences = { differences_apart };
+    ghost differences = { EicLaws.differences_apart };
 
-    ghost sums = { sums_apart };
+    ghost sums = { EicLaws.sums_apart };
 }
 
 pub struct Ean13;
@@ -66,17 +65,17 @@ pub struct Ean13;
 impl CheckScheme for Ean13 {
     ghost rules = { ean13 };
 
-    ghost short = { Prim.search rules };
+    ghost short = { EanLaws.short };
 
-    ghost positive = { Prim.search rules };
+    ghost positive = { EanLaws.positive };
 
-    ghost placed = { Prim.search rules };
+    ghost placed = { EanLaws.placed };
 
-    ghost below = { Prim.search rules };
+    ghost below = { EanLaws.below };
 
-    ghost distinct = { Prim.search rules };
+    ghost distinct = { EanLaws.distinct };
 
-    ghost telling = { Prim.search rules };
+    ghost telling = { EanLaws.telling };
 
     fn places() -> usize {
         13

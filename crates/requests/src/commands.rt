@@ -44,10 +44,10 @@ pub enum Command {
 }
 
 // Adds the field's number to a refusal found in a field.
-fn place<T>(field: u8, res: Result<T, Refusal>) -> Result<T, Refusal>
-    ensures { result ≡ placed field res }
+fn place<T>(field: u8, outcome: Result<T, Refusal>) -> Result<T, Refusal>
+    ensures { result ≡ placed field outcome }
 {
-    match res {
+    match outcome {
         Ok(value) => Ok(value),
         Err(refusal) => Err(Refusal {
             ground: refusal.ground,

@@ -1,9 +1,15 @@
 -- The laws that the EIC keeps. Assumes nothing.
-use Rattle.std.proofs.Common.{◌≡◌, ℕ, ◌+◌, ◌-◌, ◌*◌, ◌/◌, ◌%◌, Bool, true, not, ◌||◌, eqb, sym, refl, ap, ◌∙◌, ⊎_elim, arith}
+use Rattle.std.proofs.Common.{◌≡◌, ℕ, ◌+◌, ◌-◌, ◌*◌, ◌/◌, ◌%◌, ◌<◌, Bool, true, not, ◌||◌, eqb, sym, refl, ap, ◌∙◌, ⊎_elim, arith, rules}
 use Rattle.std.proofs.lemmas.Bool.Decides.{nat_tests}
 use Rattle.rulebook.specs.Schemes.{Placed, Below, Distinct, Telling, PrimeModulus, DifferencesApart, SumsApart}
 use Rattle.rulebook.specs.Codes.{eic, value_of, character_of, lawful_at}
 use Rattle.rulebook.proofs.Every.{every_two}
+
+pub short : eic.places < 256
+short = search rules
+
+pub positive : 0 < eic.modulus
+positive = search rules
 
 pub placed : Placed eic
 placed i b h = grind (arith, nat_tests)

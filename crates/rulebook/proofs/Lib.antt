@@ -3,6 +3,7 @@ pub mod Sums
 pub mod Rights
 pub mod Catching
 pub mod EicLaws
+pub mod EanLaws
 pub mod Reading
 pub mod Completing
 pub mod Own

@@ -1,7 +1,6 @@
 use Rattle.std.proofs.Common.{◌≡◌, List, [], ◌∷◌, ◌++◌, sym, ap, ◌∙◌, refl, append_assoc, append-nil, rules}
 use Rattle.rulebook.specs.Texts.{Text}
 use Rattle.rulebook.specs.Answers.{tails}
-use Rattle.records.specs.Views.{registration_texts}
 use Rattle.answers.proofs.writing.registration_fields.Goals as goal
 
 -- a field put on a line stands before all that is put there later
@@ -9,26 +8,21 @@ step : (l l' u f : Text) (fs : List Text) → l' ≡ l ++ (44 ∷ u) → u ≡ f
 step l l' u f fs e q =
     ap (λ (x : Text). x ++ tails fs) e ∙ append_assoc l (44 ∷ u) (tails fs) ∙ ap (λ (v : Text). l ++ tails (v ∷ fs)) q
 
+-- eight fields put on a line one after the other
+eight_fields : (l l1 l2 l3 l4 l5 l6 l7 l8 a b c d e f g h c' d' e' f' g' h' : Text)
+    → l8 ≡ l7 ++ (44 ∷ h') → l7 ≡ l6 ++ (44 ∷ g') → l6 ≡ l5 ++ (44 ∷ f') → l5 ≡ l4 ++ (44 ∷ e') → l4 ≡ l3 ++ (44 ∷ d') → l3 ≡ l2 ++ (44 ∷ c')
+    → l2 ≡ l1 ++ (44 ∷ b) → l1 ≡ l ++ (44 ∷ a) → c' ≡ c → d' ≡ d → e' ≡ e → f' ≡ f → g' ≡ g → h' ≡ h
+    → l8 ≡ l ++ tails (a ∷ b ∷ c ∷ d ∷ e ∷ f ∷ g ∷ h ∷ [])
+eight_fields l l1 l2 l3 l4 l5 l6 l7 l8 a b c d e f g h c' d' e' f' g' h' p8 p7 p6 p5 p4 p3 p2 p1 qc qd qe qf qg qh =
+    sym (append-nil l8)
+    ∙ step l7 l8 h' h [] p8 qh
+    ∙ step l6 l7 g' g (h ∷ []) p7 qg
+    ∙ step l5 l6 f' f (g ∷ h ∷ []) p6 qf
+    ∙ step l4 l5 e' e (f ∷ g ∷ h ∷ []) p5 qe
+    ∙ step l3 l4 d' d (e ∷ f ∷ g ∷ h ∷ []) p4 qd
+    ∙ step l2 l3 c' c (d ∷ e ∷ f ∷ g ∷ h ∷ []) p3 qc
+    ∙ step l1 l2 b b (c ∷ d ∷ e ∷ f ∷ g ∷ h ∷ []) p2 refl
+    ∙ step l l1 a a (b ∷ c ∷ d ∷ e ∷ f ∷ g ∷ h ∷ []) p1 refl
+
 pub returns : goal.returns
-returns c =
-    let r = registration_texts c.args.of.now in
-    let fs8 = r.ean ∷ [] in
-    let fs7 = r.vat ∷ fs8 in
-    let fs6 = r.responsible ∷ fs7 in
-    let fs5 = r.parent ∷ fs6 in
-    let fs4 = r.display ∷ fs5 in
-    let fs3 = r.name ∷ fs4 in
-    let fs2 = r.function ∷ fs3 in
-    record {
-      len = search rules;
-      is =
-          sym (append-nil _)
-          ∙ step _ _ _ r.ean [] c.field-6.ensures.is c.ean_text.ensures.is
-          ∙ step _ _ _ r.vat fs8 c.field-5.ensures.is c.vat_text.ensures.is
-          ∙ step _ _ _ r.responsible fs7 c.field-4.ensures.is c.code_text-2.ensures.is
-          ∙ step _ _ _ r.parent fs6 c.field-3.ensures.is c.code_text.ensures.is
-          ∙ step _ _ _ r.display fs5 c.field-2.ensures.is c.text-2.ensures.is
-          ∙ step _ _ _ r.name fs4 c.field.ensures.is c.text.ensures.is
-          ∙ step _ _ _ r.function fs3 c.function_field.ensures.is refl
-          ∙ step _ _ _ r.object fs2 c.object_field.ensures.is refl;
-    }
+returns c = record { len = search rules; is = search eight_fields }
