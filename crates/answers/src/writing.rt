@@ -102,7 +102,7 @@ fn refusal_line(refusal: &Refusal) -> Line
 {
     let mut line = Line::new();
     line.put(b"NO");
-    byte_field(&mut line, refusal.ground.number());
+    byte_field(&mut line, u8::from(refusal.ground));
     byte_field(&mut line, refusal.field);
     byte_field(&mut line, refusal.position);
     line

@@ -5,7 +5,7 @@ ghost use Rattle.std.specs.Prelude.{◌≡◌, true};
 pub mod comparing;
 pub mod reading;
 
-#[derive(Clone, Copy)]
+#[derive(Clone, Copy, PartialEq, Eq, PartialOrd, Ord)]
 pub struct Code {
     bytes: [u8; 16],
     ghost sound: { is_sound bytes ≡ true },

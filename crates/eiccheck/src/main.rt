@@ -24,20 +24,22 @@ fn write_sound<W: Write>(out: &mut W, code: &Code) -> io::Result<()> {
 }
 
 fn write_refusal<W: Write>(out: &mut W, refusal: &Refusal) -> io::Result<()> {
-    let number = refusal.ground.number();
-    let words = refusal.words();
+    let number = u8::from(refusal.ground);
     let position = refusal.position;
     if position > 0 {
-        write!(out, "refused with {number} at position {position}: {words}")
+        write!(
+            out,
+            "refused with {number} at position {position}: {refusal}"
+        )
     } else {
-        write!(out, "refused with {number}: {words}")
+        write!(out, "refused with {number}: {refusal}")
     }
 }
 
 fn write_uncompleted<W: Write>(out: &mut W, refusal: &Refusal) -> io::Result<()> {
     match refusal.ground {
         Ground::CheckCharacter => {
-            let number = refusal.ground.number();
+            let number = u8::from(refusal.ground);
             write!(
                 out,
                 "refused with {number}: no check character completes these fifteen"

@@ -15,7 +15,7 @@ pub struct Name {
 }
 
 // A display name: 1 to 16 of A to Z, 0 to 9, minus, plus, underscore.
-#[derive(Clone, Copy)]
+#[derive(Clone, Copy, PartialEq, Eq)]
 pub struct DisplayName {
     kept: Bounded<16>,
     ghost lawful: { is_display (bounded_text kept) ≡ true },

@@ -15,7 +15,7 @@ pub fn eic_soundness(bytes: &[u8]) -> u32
 {
     match Code::read(bytes) {
         Ok(_) => 0,
-        Err(refusal) => u32::from(refusal.ground.number()),
+        Err(refusal) => u32::from(u8::from(refusal.ground)),
     }
 }
 
@@ -25,7 +25,7 @@ pub fn eic_check_character(bytes: &[u8]) -> u32
 {
     match check_character(bytes) {
         Ok(character) => u32::from(character),
-        Err(refusal) => u32::from(refusal.ground.number()),
+        Err(refusal) => u32::from(u8::from(refusal.ground)),
     }
 }
 
@@ -36,6 +36,6 @@ pub fn eic_ean(bytes: &[u8]) -> u32
     if is_ean(bytes) {
         0
     } else {
-        u32::from(Ground::FieldRule.number())
+        u32::from(u8::from(Ground::FieldRule))
     }
 }

@@ -2,7 +2,9 @@
 #![tactic(auto)]
 
 ghost use Rattle.grounds.specs.Grounds.{in_field, number_of, refusal_words, words_of};
-ghost use Rattle.std.specs.Prelude.{◌≡◌};
+ghost use Rattle.std.specs.Prelude.{◌≡◌, Some};
+
+use std::fmt;
 
 // Why a call is refused. The numbers and the words are one definition each, in specs/Grounds.
 #[derive(Clone, Copy, PartialEq, Eq, Debug)]
@@ -36,12 +38,12 @@ pub struct Refusal {
     pub position: u8,
 }
 
-impl Ground {
-    // The number that answers and documents use.
-    pub fn number(self) -> u8
-        ensures { result ≡ number_of self }
-    {
-        match self {
+// The number that answers and documents use.
+impl From<Ground> for u8 {
+    ghost from_gives = { λ ground n. n ≡ number_of ground };
+
+    fn from(ground: Ground) -> u8 {
+        match ground {
             Ground::Buffer => 1,
             Ground::LineLength => 2,
             Ground::Action => 3,
@@ -62,12 +64,14 @@ impl Ground {
             Ground::NoRoom => 18,
         }
     }
+}
 
-    // What the ground means, for a person.
-    fn words(self) -> &'static str
-        ensures { result.now ≡ words_of self }
-    {
-        match self {
+// What the ground means, for a person.
+impl fmt::Display for Ground {
+    ghost output = { λ ground. Some (words_of ground) };
+
+    fn fmt<W: fmt::Write>(&self, f: &mut fmt::Formatter<W>) -> fmt::Result {
+        f.write_str(match self {
             Ground::Buffer => "answer buffer is under 200 bytes",
             Ground::LineLength => "line is empty or over 194 bytes",
             Ground::Action => "action is not C, U, D, R or L",
@@ -86,7 +90,16 @@ impl Ground {
             Ground::NameHeld => "display name is held by another record of the type",
             Ground::NamedCode => "parent or responsible party may not be named",
             Ground::NoRoom => "store has no room",
-        }
+        })
+    }
+}
+
+// A refusal in a call without a line, with no position to tell.
+impl From<Ground> for Refusal {
+    ghost from_gives = { λ ground r. r ≡ in_field 0 ground 0 };
+
+    fn from(ground: Ground) -> Refusal {
+        Refusal::new(ground, 0)
     }
 }
 
@@ -102,13 +115,24 @@ impl Refusal {
         }
     }
 
-    // What the refusal means, for a person.
-    pub fn words(&self) -> &'static str
-        ensures { result.now ≡ refusal_words self.now }
+    // The refusal, found in the field of this number.
+    pub fn in_field(self, field: u8) -> Refusal
+        ensures { result ≡ in_field field self.ground self.position }
     {
+        Refusal { field, ..self }
+    }
+}
+
+// What the refusal means, for a person.
+impl fmt::Display for Refusal {
+    ghost output = { λ r. Some (refusal_words r) };
+
+    fn fmt<W: fmt::Write>(&self, f: &mut fmt::Formatter<W>) -> fmt::Result {
         match self.ground {
-            Ground::CodeForm if self.position == 0 => "code does not have the due length",
-            ground => ground.words(),
+            Ground::CodeForm if self.position == 0 => {
+                f.write_str("code does not have the due length")
+            }
+            ground => f.write(ground),
         }
     }
 }

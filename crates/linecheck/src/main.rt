@@ -48,9 +48,8 @@ fn answer<W: Write>(out: &mut W, number: u64, office: &Office, line: &[u8]) -> i
     match read_line(office, line) {
         Ok(command) => write_command(out, &command)?,
         Err(refusal) => {
-            let words = refusal.words();
             write_answer(out, &refusal)?;
-            write!(out, " {words}")?;
+            write!(out, " {refusal}")?;
         }
     }
     out.write_all(b"\n")

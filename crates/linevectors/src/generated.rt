@@ -32,7 +32,7 @@ fn below(seed: u64, n: usize) -> usize {
 fn read(office: &Office, line: &[u8]) -> (u8, u8, u8) {
     match read_line(office, line) {
         Ok(_) => (0, 0, 0),
-        Err(refusal) => (refusal.ground.number(), refusal.field, refusal.position),
+        Err(refusal) => (u8::from(refusal.ground), refusal.field, refusal.position),
     }
 }
 
