@@ -40,7 +40,7 @@ impl CheckScheme for Eic {
         let value = value_of(character);
         let lawful = match place {
             0 | 1 | 15 => value < 36,
-            2 => Kind::of(character).is_some(),
+            2 => Kind::try_from(character).is_ok(),
             3..=14 => value <= 36,
             _ => false,
         };

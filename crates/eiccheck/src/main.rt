@@ -16,10 +16,9 @@ const KEPT: usize = 17;
 
 fn write_sound<W: Write>(out: &mut W, code: &Code) -> io::Result<()> {
     let parts = code.parts();
-    let letter = char::from(parts.kind.letter());
-    let kind = parts.kind.words();
-    out.write_all(b"sound: ")?;
-    write!(out, "{kind} ({letter}) of office ")?;
+    let kind = parts.kind;
+    let letter = char::from(u8::from(kind));
+    write!(out, "sound: {kind} ({letter}) of office ")?;
     out.write_all(parts.office.text())
 }
 

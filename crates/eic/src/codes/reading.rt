@@ -72,20 +72,16 @@ impl Code {
     pub fn is_party(&self) -> bool
         ensures { result ≡ is_party (code_text self.now) }
     {
-        self.bytes[2] == Kind::Party.letter()
+        self.bytes[2] == u8::from(Kind::Party)
     }
 
     pub fn parts(&self) -> Parts
         ensures { whole_text result ≡ code_text self.now }
     {
-        let bytes = self.bytes;
-        let [first, second, letter, tail @ ..] = &bytes[..] else {
+        let [first, second, letter, middle @ .., check] = self.text() else {
             unreachable()
         };
-        let [middle @ .., check] = tail else {
-            unreachable()
-        };
-        let Some(kind) = Kind::of(*letter) else {
+        let Ok(kind) = Kind::try_from(*letter) else {
             unreachable()
         };
         let mut rest = [0; 12];
