@@ -1,12 +1,16 @@
 -- The texts that codes, offices and types stand for.
-use Rattle.std.specs.Prelude.{ℕ, cond, [], ◌∷◌, ◌++◌, Some, None, codes, Option}
+use Rattle.std.specs.Prelude.{ℕ, cond, [], ◌∷◌, ◌++◌, Some, None, codes, Option, ◌==◌}
 use Rattle.rulebook.specs.Texts.{Text}
-use Rattle.rulebook.specs.Codes.{is_type}
+use Rattle.rulebook.specs.Codes.{is_type, value_of}
 use Rattle.eic.specs.declared.codes.Code.{Code}
 use Rattle.eic.specs.declared.codes.reading.Parts.{Parts}
 use Rattle.eic.specs.declared.kinds.Kind.{Kind}
 use Rattle.eic.specs.declared.kinds.Kind.TheVariants.{TieLine, ItSystem, Resource, Party, Zone, MeteringPoint}
 use Rattle.eic.specs.declared.offices.Office.{Office}
+
+-- the value of a character, where it has one
+abbrev pub value_if_any : ℕ → Option ℕ
+value_if_any b = cond (value_of b == 255) None (Some (value_of b))
 
 abbrev pub letter_of : Kind → ℕ
 letter_of TieLine = 84

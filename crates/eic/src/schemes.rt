@@ -37,14 +37,13 @@ impl CheckScheme for Eic {
     }
 
     fn value(place: usize, character: u8) -> Option<u8> {
-        let value = value_of(character);
-        let lawful = match place {
-            0 | 1 | 15 => value < 36,
-            2 => Kind::try_from(character).is_ok(),
-            3..=14 => value <= 36,
-            _ => false,
-        };
-        if lawful { Some(value) } else { None }
+        let value = value_of(character)?;
+        match place {
+            0 | 1 | 15 if value < 36 => Some(value),
+            2 if Kind::try_from(character).is_ok() => Some(value),
+            3..=14 => Some(value),
+            _ => None,
+        }
     }
 
     fn weight(place: usize) -> u8 {

@@ -1,21 +1,18 @@
-use Rattle.std.proofs.Common.{◌≡◌, ℕ, ◌<◌, sym, ◌∙◌, arith}
+use Rattle.std.proofs.Common.{◌≡◌, ◌≢◌, ℕ, ◌<◌, ◌≤◌, Some, None, arith, rules}
 use Rattle.std.proofs.lemmas.Bool.Decides.{nat_tests}
-use Rattle.rulebook.specs.Codes.{character_of, value_of}
+use Rattle.std.proofs.lemmas.Iterator.{first_from_Range}
+use borrow.Author.Tests.{tests}
+use Rattle.rulebook.specs.Codes.{character_of}
+use Rattle.eic.specs.Views.{value_if_any}
 use Rattle.eic.proofs.values.character_of.Goals as goal
 
--- only one character has a value
-one_character : (b v : ℕ) → v < 37 → value_of b ≡ v → b ≡ character_of v
-one_character b v h e = grind (arith, nat_tests)
-
--- and each value below 37 has one
-has_character : (v : ℕ) → v < 37 → (character_of v < 91) × (value_of (character_of v) ≡ v)
-has_character v h = (grind (arith, nat_tests), grind (arith, nat_tests))
-
-pub returns-then-value_of-value : goal.returns-then-value_of-value
-returns-then-value_of-value c =
-    one_character c.loop-character.character c.args.value c.requires (sym c.value_of.ensures ∙ c.if-value_of-value.true)
+-- each value below 37 has a character in the table
+has_character : (v : ℕ) → v < 37 → (b : ℕ) × (45 ≤ b) × (b < 91) × (value_if_any b ≡ Some v)
+has_character v h = (character_of v, grind (arith, nat_tests), grind (arith, nat_tests), grind (arith, nat_tests))
 
 pub unreachable-requires : goal.unreachable-requires
 unreachable-requires c =
-    let h = has_character c.args.value c.requires in
-    c.loop-character.invariant (character_of c.args.value) (omega (arith, h.0)) h.1
+    let v = c.args.value in
+    let k = has_character v c.requires in
+    let none : (b : ℕ) → 45 ≤ b → b < 91 → value_if_any b ≢ Some v = first_from_Range _ _ _ None (λ b. value_if_any b ≡ Some v) (λ b. value_if_any b ≢ Some v) c.in_default.ensures.ran (λ x q e. search (rules, tests)) (λ x q e. search (rules, tests)) in
+    none k.0 k.1 k.2 k.3
