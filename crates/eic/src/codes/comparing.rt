@@ -1,5 +1,4 @@
 // Codes, compared by their characters.
-ghost use Rattle.eic.specs.Keys.{key_of};
 ghost use Rattle.eic.specs.Views.{code_text};
 ghost use Rattle.rulebook.specs.Codes.{type_of};
 ghost use Rattle.rulebook.specs.Texts.{precedes};
@@ -9,24 +8,17 @@ ghost use Rattle.std.specs.Prelude.{◌≡◌, ◌==◌};
 use super::Code;
 
 impl Code {
-    // The number that its bytes write: codes are ordered by it as they are byte by byte.
-    fn key(&self) -> u128
-        ensures { result ≡ key_of (code_text self.now) }
-    {
-        u128::from_be_bytes(self.bytes)
-    }
-
     // Whether it stands before the other, byte by byte.
     pub fn is_before(&self, other: &Code) -> bool
         ensures { result ≡ precedes (code_text self.now) (code_text other.now) }
     {
-        self.key() < other.key()
+        self < other
     }
 
     pub fn is_same(&self, other: &Code) -> bool
         ensures { result ≡ bytes_eq (code_text self.now) (code_text other.now) }
     {
-        self.key() == other.key()
+        self == other
     }
 
     // Whether it has the other's type letter.
