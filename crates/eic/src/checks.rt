@@ -12,12 +12,9 @@ pub(crate) fn sum_of(places: usize, text: &[u8]) -> Result<u32, Refusal>
     ensures { result ≡ sum_of places text.now }
 {
     if text.len() != places {
-        return Err(Refusal::new(Ground::CodeForm, 0));
+        return Err(Ground::CodeForm.into());
     }
-    match scheme::weigh::<Eic>(text) {
-        Ok(sum) => Ok(sum),
-        Err(position) => Err(Refusal::new(Ground::CodeForm, position as u8)),
-    }
+    scheme::weigh::<Eic>(text).map_err(|position| Refusal::new(Ground::CodeForm, position as u8))
 }
 
 // The character that makes this sum a multiple of 37.
@@ -26,16 +23,9 @@ fn completion(sum: u32) -> Result<u8, Refusal>
 {
     let value = (37 - sum % 37) % 37;
     if value == 36 {
-        return Err(Refusal::new(Ground::CheckCharacter, 0));
+        return Err(Ground::CheckCharacter.into());
     }
     Ok(character_of(value as u8))
-}
-
-fn found_character(text: &[u8]) -> Result<u8, Refusal>
-    ensures { result ≡ check_character text.now }
-{
-    let sum = sum_of(15, text)?;
-    completion(sum)
 }
 
 // The one character that completes fifteen to a sound code.
@@ -43,5 +33,5 @@ pub fn check_character(text: &[u8]) -> Result<u8, Refusal>
     ensures is { result ≡ check_character text.now }
     ensures only { OnlyCompletion text.now result }
 {
-    found_character(text)
+    sum_of(15, text).and_then(completion)
 }

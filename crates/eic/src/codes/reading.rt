@@ -36,7 +36,7 @@ impl Code {
     {
         let sum = sum_of(16, text)?;
         if !office.begins(text) {
-            return Err(Refusal::new(Ground::OtherOffice, 0));
+            return Err(Ground::OtherOffice.into());
         }
         sealed(text, sum)
     }
@@ -102,7 +102,7 @@ fn sealed(text: &[u8], sum: u32) -> Result<Code, Refusal>
     ensures { viewed code_text result ≡ checked text.now sum }
 {
     if sum % 37 != 0 {
-        return Err(Refusal::new(Ground::CheckCharacter, 0));
+        return Err(Ground::CheckCharacter.into());
     }
     let mut bytes = [0; 16];
     bytes.copy_from_slice(text);

@@ -1,11 +1,11 @@
-use Rattle.std.proofs.Common.{ℕ, Result, sym, subst}
+use Rattle.std.proofs.Common.{rules, ◌≡◌, ℕ, Result, subst}
 use Rattle.grounds.specs.declared.Refusal.{Refusal}
-use Rattle.rulebook.specs.Codes.{OnlyCompletion}
+use Rattle.rulebook.specs.Codes.{OnlyCompletion, check_character}
 use Rattle.rulebook.proofs.Completing.{only_completion}
 use Rattle.eic.proofs.checks.check_character.Goals as goal
 
-pub returns : goal.returns
-returns c =
+pub returns-clause-only : goal.returns-clause-only
+returns-clause-only c =
     let t = c.args.text.now in
-    let is = c.found_character.ensures in
-    record { is = is; only = subst (λ (r : Result ℕ Refusal). OnlyCompletion t r) (sym is) (only_completion t) }
+    let is : check_character t ≡ c.and_then.result = search rules in
+    subst (λ (r : Result ℕ Refusal). OnlyCompletion t r) is (only_completion t)
