@@ -79,7 +79,7 @@ fn answer_all<R: Read, W: Write>(
 fn run<R: Read, W: Write>(input: &mut R, out: &mut W) -> io::Result<()> {
     let mut lines = LineReader::<KEPT>::new();
     lines.read_next(input)?;
-    match Office::read(lines.line()) {
+    match Office::try_from(lines.line()) {
         Ok(office) => answer_all(input, &mut lines, &office, out),
         Err(refusal) => {
             write_answer(out, &refusal)?;

@@ -15,7 +15,7 @@ const ANSWER: &[u8] =
     b"OK,9QX0000000000011,I,2026-03-05,9999999999,99,NNNNNNNNNNNNNNNNNNNNNNNNNNNNNNNNNNNNNNNNNNNNNNNNNNNNNNNNNNNNNNNNNNNNNN,ABCDEFGHIJKLMNOP,9QXALPHA-------9,9QXALPHA-------9,UA123456789012,4820000000017";
 
 fn created(line: &[u8], status: Status) -> Option<Record> {
-    let Ok(office) = Office::read(b"9Q") else {
+    let Ok(office) = Office::try_from(&b"9Q"[..]) else {
         return None;
     };
     let Ok(command) = read_line(&office, line) else {
@@ -56,7 +56,7 @@ fn longest_line(rt: HostRuntime) -> Result<(), Fail> {
 fn one_byte_more(rt: HostRuntime) -> Result<(), Fail> {
     let mut line = [b'7'; 195];
     line[0..194].copy_from_slice(LONGEST);
-    let Ok(office) = Office::read(b"9Q") else {
+    let Ok(office) = Office::try_from(&b"9Q"[..]) else {
         return Err(Fail::new("9Q is an office"));
     };
     match read_line(&office, &line) {

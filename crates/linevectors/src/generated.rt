@@ -63,7 +63,7 @@ fn damaged(rt: &impl Abort, office: &Office, line: &[u8], seed: u64) -> Result<(
 
 #[test]
 fn lines(rt: HostRuntime) -> Result<(), Fail> {
-    let Ok(office) = Office::read(b"9Q") else {
+    let Ok(office) = Office::try_from(&b"9Q"[..]) else {
         return Err(Fail::new("9Q is an office"));
     };
     let mut seed = 194;

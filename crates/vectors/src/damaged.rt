@@ -113,7 +113,7 @@ fn completed(rt: HostRuntime) {
 // A code is read for its own office alone, and the office is looked at before the check character.
 #[test]
 fn read_for_an_office(rt: HostRuntime) -> Result<(), Fail> {
-    let Ok(office) = Office::read(b"9Q") else {
+    let Ok(office) = Office::try_from(&b"9Q"[..]) else {
         return Err(Fail::new("9Q is an office"));
     };
     assert!(rt; Code::read_for(&office, b"9QXALPHA-------9").is_ok());
@@ -129,9 +129,9 @@ fn read_for_an_office(rt: HostRuntime) -> Result<(), Fail> {
         ground_of(&office, b"9QXALPHa-------9"),
         Some(Ground::CodeForm)
     );
-    assert!(rt; Office::read(b"9q").is_err());
-    assert!(rt; Office::read(b"9").is_err());
-    assert!(rt; Office::read(b"9QQ").is_err());
+    assert!(rt; Office::try_from(&b"9q"[..]).is_err());
+    assert!(rt; Office::try_from(&b"9"[..]).is_err());
+    assert!(rt; Office::try_from(&b"9QQ"[..]).is_err());
     Ok(())
 }
 

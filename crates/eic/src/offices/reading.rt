@@ -10,33 +10,26 @@ use grounds::{Ground, Refusal};
 fn is_office_character(character: u8) -> bool
     ensures { result ≡ (is_digit character || is_capital character) }
 {
-    match character {
-        b'0'..=b'9' | b'A'..=b'Z' => true,
-        _ => false,
-    }
+    matches!(character, b'0'..=b'9' | b'A'..=b'Z')
 }
 
-fn is_office(text: &[u8]) -> bool
-    ensures { result ≡ is_office text.now }
-{
-    match text {
-        [first, second] => is_office_character(*first) && is_office_character(*second),
-        _ => false,
+// An office is read from exactly two characters.
+impl TryFrom<&[u8]> for Office {
+    type Error = Refusal;
+
+    ghost try_from_gives = { λ text r. viewed office_text r ≡ read_office text.now };
+
+    fn try_from(text: &[u8]) -> Result<Office, Refusal> {
+        match text {
+            [first, second] if is_office_character(*first) && is_office_character(*second) => {
+                Ok(Office::of(*first, *second))
+            }
+            _ => Err(Ground::OtherOffice.into()),
+        }
     }
 }
 
 impl Office {
-    pub fn read(text: &[u8]) -> Result<Office, Refusal>
-        ensures { viewed office_text result ≡ read_office text.now }
-    {
-        if !is_office(text) {
-            return Err(Refusal::new(Ground::OtherOffice, 0));
-        }
-        let mut characters = [0; 2];
-        characters.copy_from_slice(text);
-        Ok(Office { characters })
-    }
-
     pub(crate) fn of(first: u8, second: u8) -> Office
         requires { is_office (first ∷ (second ∷ [])) ≡ true }
         ensures { office_text result ≡ first ∷ (second ∷ []) }
@@ -58,7 +51,6 @@ impl Office {
         requires { 2 ≤ length text.now }
         ensures { result ≡ of_office (office_text self.now) text.now }
     {
-        let [first, second] = self.characters;
-        text[0] == first && text[1] == second
+        text.starts_with(self.text())
     }
 }
