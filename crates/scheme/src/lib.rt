@@ -54,9 +54,7 @@ pub fn weigh<S: CheckScheme>(text: &[u8]) -> Result<u32, usize>
 {
     let mut sum: u32 = 0;
     for (i, character) in text.iter().enumerate() {
-        let Some(value) = S::value(i, *character) else {
-            return Err(i + 1);
-        };
+        let value = S::value(i, *character).ok_or(i + 1)?;
         sum += S::weight(i) as u32 * value as u32;
     }
     Ok(sum)
@@ -67,13 +65,7 @@ pub fn right<S: CheckScheme>(text: &[u8]) -> bool
     ensures decides { result ≡ is_right S.CheckScheme.rules text.now }
     ensures catches { result ≡ true → CatchesOne S.CheckScheme.rules text.now }
 {
-    if text.len() != S::places() {
-        return false;
-    }
-    match weigh::<S>(text) {
-        Ok(sum) => sum % S::modulus() as u32 == 0,
-        Err(_) => false,
-    }
+    text.len() == S::places() && weigh::<S>(text).is_ok_and(|sum| sum % S::modulus() as u32 == 0)
 }
 
 // Whether a text is right by a scheme that catches errors in two characters. Where it is, no
