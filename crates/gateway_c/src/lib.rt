@@ -5,6 +5,7 @@ ghost use Rattle.rulebook.specs.Gateway.{check_character_number, ean_number, sou
 ghost use Rattle.std.specs.Prelude.{◌≡◌};
 
 // 0 for a sound code, else the number of the ground: 6 or 8.
+// Kept: C calls this name, and no crate can stand on the static library that has it.
 #[unsafe(no_mangle)]
 pub extern "C" fn eic_soundness(bytes: &[u8]) -> u32
     ensures { result ≡ soundness bytes.now }
@@ -13,6 +14,7 @@ pub extern "C" fn eic_soundness(bytes: &[u8]) -> u32
 }
 
 // The byte of the check character of fifteen characters, else the number of the ground: 6 or 8.
+// Kept: C calls this name, and no crate can stand on the static library that has it.
 #[unsafe(no_mangle)]
 pub extern "C" fn eic_check_character(bytes: &[u8]) -> u32
     ensures { result ≡ check_character_number bytes.now }
@@ -21,6 +23,7 @@ pub extern "C" fn eic_check_character(bytes: &[u8]) -> u32
 }
 
 // 0 for a right EAN-13, else 9.
+// Kept: C calls this name, and no crate can stand on the static library that has it.
 #[unsafe(no_mangle)]
 pub extern "C" fn eic_ean(bytes: &[u8]) -> u32
     ensures { result ≡ ean_number bytes.now }

@@ -22,6 +22,8 @@ pub struct Parts {
 
 impl Code {
     // Form, then check character. No misreading of a code that is read is sound.
+    // Kept: `TryFrom<&[u8]>` is no plainer: its one member `try_from_gives` would hold three clauses,
+    // `λ text r. (viewed code_text r ≡ read_code text.now) × (is_ok r ≡ is_sound text.now) × ..`.
     pub fn read(text: &[u8]) -> Result<Code, Refusal>
         ensures is { viewed code_text result ≡ read_code text.now }
         ensures sound { is_ok result ≡ is_sound text.now }
