@@ -40,7 +40,7 @@ pub fn examine(text: &[u8]) -> Verdict
             Err(refusal) => Verdict::Uncompleted(refusal),
         };
     }
-    match Code::read(text) {
+    match Code::try_from(text) {
         Ok(code) => Verdict::Sound(code),
         Err(refusal) => Verdict::Refused(refusal),
     }

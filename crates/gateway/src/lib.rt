@@ -22,7 +22,7 @@ fn number_of(ground: Ground) -> u32
 pub fn eic_soundness(bytes: &[u8]) -> u32
     ensures { result ≡ soundness bytes.now }
 {
-    Code::read(bytes).map_or_else(|refusal| number_of(refusal.ground), |_| 0)
+    Code::try_from(bytes).map_or_else(|refusal| number_of(refusal.ground), |_| 0)
 }
 
 // The byte of the check character of fifteen characters, else the number of the ground: 6 or 8.

@@ -20,19 +20,24 @@ pub struct Parts {
     pub check: u8,
 }
 
-impl Code {
-    // Form, then check character. No misreading of a code that is read is sound.
-    // Kept: `TryFrom<&[u8]>` is no plainer: its one member `try_from_gives` would hold three clauses,
-    // `λ text r. (viewed code_text r ≡ read_code text.now) × (is_ok r ≡ is_sound text.now) × ..`.
-    pub fn read(text: &[u8]) -> Result<Code, Refusal>
+// Form, then check character. No misreading of a code that is read is sound.
+impl TryFrom<&[u8]> for Code {
+    type Error = Refusal;
+
+    ghost try_from_gives = { λ text r. viewed code_text r ≡ read_code text.now };
+
+    fn try_from(text: &[u8]) -> Result<Code, Refusal>
         ensures is { viewed code_text result ≡ read_code text.now }
         ensures sound { is_ok result ≡ is_sound text.now }
         ensures misread { is_ok result ≡ true → CatchesMisread eic text.now }
     {
         sealed(text, sum_of(16, text)?)
     }
+}
 
+impl Code {
     // Form, then office, then check character.
+    // Kept: the conversion is no plainer: `Code::try_from((office, text))`.
     pub fn read_for(office: &Office, text: &[u8]) -> Result<Code, Refusal>
         ensures { viewed code_text result ≡ read_code_for (office_text office.now) text.now }
     {
@@ -44,6 +49,7 @@ impl Code {
     }
 
     // Fifteen characters with their check character.
+    // Kept: the conversion is no plainer, since a text reads as sixteen: `Code::try_from(Fifteen(text))`.
     pub fn complete(text: &[u8]) -> Result<Code, Refusal>
         ensures { viewed code_text result ≡ completed text.now }
     {
