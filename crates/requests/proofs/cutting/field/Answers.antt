@@ -1,16 +1,20 @@
-use Rattle.std.proofs.Common.{sym, ap, ◌∙◌, arith}
-use Rattle.requests.specs.Cuts.{shown}
-use Rattle.requests.proofs.Parting.{field_at, first_is, field_later, field_none}
+use Rattle.std.proofs.Common.{◌≡◌, Some, None, Option, Bor, [], refl, ap, ◌∙◌, rules, tests}
+use Rattle.std.proofs.lemmas.Iterator.Consumers.{nth_from_yields_List}
+use Rattle.std.proofs.lemmas.Option.{unwrap_or-slice_get}
+use Rattle.std.specs.Option.{option_map, unwrap_or}
+use Rattle.rulebook.specs.Texts.{Text, fields}
+use Rattle.requests.proofs.Parting.{yields_fields}
 use Rattle.requests.proofs.cutting.field.Goals as goal
 
-pub returns-then-i-eq0 : goal.returns-then-i-eq0
-returns-then-i-eq0 c =
-    let t = c.loop-i.rest.now in
-    c.cut.ensures.front ∙ sym (first_is t) ∙ ap (field_at t) (sym c.if-i-eq0.true) ∙ c.loop-i.invariant
+-- what the part that may be there holds
+held : (o : Option (Bor Text)) (d : Bor Text) → (unwrap_or o d).now ≡ unwrap_or (option_map (λ x. x.now) o) d.now
+held None d = refl
+held (Some x) d = refl
 
-pub returns-in-None : goal.returns-in-None
-returns-in-None c = sym (field_none c.loop-i.rest.now c.loop-i.i (sym c.cut.ensures.back ∙ ap shown c.in-None.is) (omega arith)) ∙ c.loop-i.invariant
-
-pub loop-i-preserved : goal.loop-i-preserved
-loop-i-preserved c =
-    sym (field_later c.loop-i.rest.now c.in-Some.back.now c.loop-i.i (sym c.cut.ensures.back ∙ ap shown c.in-Some.is) (omega arith)) ∙ c.loop-i.invariant
+pub returns : goal.returns
+returns c =
+    ap (λ (x : Bor Text). x.now) c.unwrap_or.ensures
+    ∙ held c.nth.result _
+    ∙ ap (λ (o : Option Text). unwrap_or o []) (nth_from_yields_List c.nth.result _ _ c.nth.ensures.ran (yields_fields _ c.args.line.now c.split.ensures.rest c.split.ensures.done c.split.ensures.closure (λ x r q k. search (rules, tests))))
+    ∙ unwrap_or-slice_get (fields c.args.line.now) c.saturating_sub.result []
+    ∙ rw c.saturating_sub.ensures refl
