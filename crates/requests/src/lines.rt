@@ -67,53 +67,36 @@ fn registration_fields(line: &[u8]) -> RegistrationFields<'_>
 pub fn read_request(line: &[u8]) -> Result<Request<'_>, Refusal>
     ensures { viewed order_in result ≡ cut_up line.now }
 {
-    if line.len() == 0 || line.len() > LONGEST {
-        return Err(Refusal {
-            ground: Ground::LineLength,
-            field: 0,
-            position: 0,
-        });
+    if !(1..=LONGEST).contains(&line.len()) {
+        return Err(Ground::LineLength.into());
     }
-    let action = field(line, 1);
-    if action.len() != 1 {
-        return Err(Refusal {
-            ground: Ground::Action,
-            field: 1,
-            position: 0,
-        });
-    }
-    let n = count(line);
-    match action[0] as char {
-        'C' if n == 11 => Ok(Request::Create {
+    let no_action = Refusal::from(Ground::Action).in_field(1);
+    let [action] = field(line, 1) else {
+        return Err(no_action);
+    };
+    match (char::from(*action), count(line)) {
+        ('C', 11) => Ok(Request::Create {
             date: field(line, 2),
             code: field(line, 3),
             registration: registration_fields(line),
         }),
-        'U' if n == 11 => Ok(Request::Change {
+        ('U', 11) => Ok(Request::Change {
             date: field(line, 2),
             code: field(line, 3),
             registration: registration_fields(line),
         }),
-        'D' if n == 3 => Ok(Request::Deactivate {
+        ('D', 3) => Ok(Request::Deactivate {
             date: field(line, 2),
             code: field(line, 3),
         }),
-        'R' if n == 3 => Ok(Request::Reactivate {
+        ('R', 3) => Ok(Request::Reactivate {
             date: field(line, 2),
             code: field(line, 3),
         }),
-        'L' if n == 2 => Ok(Request::LookUp {
+        ('L', 2) => Ok(Request::LookUp {
             code: field(line, 2),
         }),
-        'C' | 'U' | 'D' | 'R' | 'L' => Err(Refusal {
-            ground: Ground::FieldCount,
-            field: 0,
-            position: 0,
-        }),
-        _ => Err(Refusal {
-            ground: Ground::Action,
-            field: 1,
-            position: 0,
-        }),
+        ('C' | 'U' | 'D' | 'R' | 'L', _) => Err(Ground::FieldCount.into()),
+        _ => Err(no_action),
     }
 }
