@@ -16,7 +16,7 @@ use eic::codes::Code;
 use fields::dates::Date;
 use grounds::{Ground, Refusal};
 use records::{Record, Registration};
-use requests::commands::Command;
+use requests::commands::{Command, Dated};
 use stores::store::Store;
 
 mod fitting;
@@ -111,18 +111,14 @@ pub fn decide<S: Store>(store: &S, command: &Command) -> Result<Grant, Refusal>
     ensures { viewed grant_of result ≡ decided (S.Store.entries store.now) (order_of command.now) }
 {
     match command {
-        Command::Create {
-            date,
-            code,
-            registration,
-        } => create(store, date, code, registration),
-        Command::Change {
-            date,
-            code,
-            registration,
-        } => change(store, date, code, registration),
-        Command::Deactivate { date, code } => restate(store, Action::Deactivate, date, code),
-        Command::Reactivate { date, code } => restate(store, Action::Reactivate, date, code),
-        Command::LookUp { code } => show(store, code),
+        Command::Create(Dated { date, code }, registration) => {
+            create(store, date, code, registration)
+        }
+        Command::Change(Dated { date, code }, registration) => {
+            change(store, date, code, registration)
+        }
+        Command::Deactivate(Dated { date, code }) => restate(store, Action::Deactivate, date, code),
+        Command::Reactivate(Dated { date, code }) => restate(store, Action::Reactivate, date, code),
+        Command::LookUp(code) => show(store, code),
     }
 }

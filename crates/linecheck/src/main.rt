@@ -2,35 +2,33 @@
 #![tactic(auto)]
 
 use answers::writing::write_refusal;
-use eic::codes::Code;
 use eic::offices::Office;
 use feed::lines::LineReader;
-use fields::dates::Date;
 use grounds::Refusal;
-use requests::commands::{Command, read_line};
+use requests::commands::{Command, Dated, read_line};
 use std::io;
 use std::io::{BufWriter, Read, Write};
 
 // One byte over the longest line, so that a longer one is kept as one that is too long.
 const KEPT: usize = 195;
 
-fn write_dated<W: Write>(out: &mut W, action: &[u8], code: &Code, date: &Date) -> io::Result<()> {
-    let day = date.text();
+fn write_dated<W: Write>(out: &mut W, action: &[u8], dated: &Dated) -> io::Result<()> {
+    let day = dated.date.text();
     out.write_all(b"OK ")?;
     out.write_all(action)?;
     out.write_all(b" ")?;
-    out.write_all(code.text())?;
+    out.write_all(dated.code.text())?;
     out.write_all(b" from ")?;
     out.write_all(&day)
 }
 
 fn write_command<W: Write>(out: &mut W, command: &Command) -> io::Result<()> {
     match command {
-        Command::Create { date, code, .. } => write_dated(out, b"create", code, date),
-        Command::Change { date, code, .. } => write_dated(out, b"change", code, date),
-        Command::Deactivate { date, code } => write_dated(out, b"deactivate", code, date),
-        Command::Reactivate { date, code } => write_dated(out, b"reactivate", code, date),
-        Command::LookUp { code } => {
+        Command::Create(dated, _) => write_dated(out, b"create", dated),
+        Command::Change(dated, _) => write_dated(out, b"change", dated),
+        Command::Deactivate(dated) => write_dated(out, b"deactivate", dated),
+        Command::Reactivate(dated) => write_dated(out, b"reactivate", dated),
+        Command::LookUp(code) => {
             out.write_all(b"OK look up ")?;
             out.write_all(code.text())
         }

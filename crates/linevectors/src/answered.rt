@@ -3,7 +3,7 @@ use answers::writing::{write_record, write_refusal};
 use eic::offices::Office;
 use grounds::{Ground, Refusal};
 use records::{Record, Status};
-use requests::commands::{Command, read_line};
+use requests::commands::{Command, Dated, read_line};
 use std::test::Fail;
 
 // 194 bytes.
@@ -22,11 +22,7 @@ fn created(line: &[u8], status: Status) -> Option<Record> {
         return None;
     };
     match command {
-        Command::Create {
-            date,
-            code,
-            registration,
-        } => Some(Record {
+        Command::Create(Dated { date, code }, registration) => Some(Record {
             code,
             status,
             date,

@@ -23,15 +23,15 @@ texts_in f = record {
 }
 
 abbrev pub order_in : Request → Order
-order_in (Create d c r) = creates d.now c.now (texts_in r)
-order_in (Change d c r) = changes d.now c.now (texts_in r)
-order_in (Deactivate d c) = deactivates d.now c.now
-order_in (Reactivate d c) = reactivates d.now c.now
+order_in (Create d r) = creates d.date.now d.code.now (texts_in r)
+order_in (Change d r) = changes d.date.now d.code.now (texts_in r)
+order_in (Deactivate d) = deactivates d.date.now d.code.now
+order_in (Reactivate d) = reactivates d.date.now d.code.now
 order_in (LookUp c) = looks_up c.now
 
 abbrev pub order_of : Command → Order
-order_of (command.Create d c r) = creates (date_text d) (code_text c) (registration_texts r)
-order_of (command.Change d c r) = changes (date_text d) (code_text c) (registration_texts r)
-order_of (command.Deactivate d c) = deactivates (date_text d) (code_text c)
-order_of (command.Reactivate d c) = reactivates (date_text d) (code_text c)
+order_of (command.Create d r) = creates (date_text d.date) (code_text d.code) (registration_texts r)
+order_of (command.Change d r) = changes (date_text d.date) (code_text d.code) (registration_texts r)
+order_of (command.Deactivate d) = deactivates (date_text d.date) (code_text d.code)
+order_of (command.Reactivate d) = reactivates (date_text d.date) (code_text d.code)
 order_of (command.LookUp c) = looks_up (code_text c)

@@ -1,14 +1,15 @@
 // A request whose fields are read: what the register is asked to do.
 ghost use Rattle.eic.specs.Views.{code_text, office_text};
-ghost use Rattle.fields.specs.Views.{code_text_or};
+ghost use Rattle.fields.specs.Views.{code_text_or, date_text};
+ghost use Rattle.grounds.specs.declared.Refusal.{Refusal};
 ghost use Rattle.records.specs.Views.{registration_texts};
 ghost use Rattle.requests.specs.Views.{order_in, order_of, texts_in};
 ghost use Rattle.rulebook.specs.Fields.{read_named};
-ghost use Rattle.rulebook.specs.Requests.{Verbatim, asked, changes, creates, read_order, read_registration};
-ghost use Rattle.rulebook.specs.Texts.{placed, viewed};
-ghost use Rattle.std.specs.Prelude.{◌≡◌};
+ghost use Rattle.rulebook.specs.Requests.{Order, Verbatim, asked, read_dated, read_order, read_registration};
+ghost use Rattle.rulebook.specs.Texts.{Text, onward, placed, viewed};
+ghost use Rattle.std.specs.Prelude.{◌≡◌, Result};
 
-use super::lines::{RegistrationFields, Request, read_request};
+use super::lines::{DatedFields, RegistrationFields, Request, read_request};
 use eic::codes::Code;
 use eic::offices::Office;
 use fields::articles::Ean;
@@ -18,43 +19,27 @@ use fields::numbers::{Function, ObjectNumber};
 use grounds::Refusal;
 use records::Registration;
 
+// A code, and the date from which what is asked of it holds.
+#[derive(Clone, Copy)]
+pub struct Dated {
+    pub date: Date,
+    pub code: Code,
+}
+
 #[derive(Clone, Copy)]
 pub enum Command {
-    Create {
-        date: Date,
-        code: Code,
-        registration: Registration,
-    },
-    Change {
-        date: Date,
-        code: Code,
-        registration: Registration,
-    },
-    Deactivate {
-        date: Date,
-        code: Code,
-    },
-    Reactivate {
-        date: Date,
-        code: Code,
-    },
-    LookUp {
-        code: Code,
-    },
+    Create(Dated, Registration),
+    Change(Dated, Registration),
+    Deactivate(Dated),
+    Reactivate(Dated),
+    LookUp(Code),
 }
 
 // Adds the field's number to a refusal found in a field.
 fn place<T>(field: u8, outcome: Result<T, Refusal>) -> Result<T, Refusal>
     ensures { result ≡ placed field outcome }
 {
-    match outcome {
-        Ok(value) => Ok(value),
-        Err(refusal) => Err(Refusal {
-            ground: refusal.ground,
-            field,
-            position: refusal.position,
-        }),
-    }
+    outcome.map_err(|refusal| refusal.in_field(field))
 }
 
 // A code of the office, or none for a blank.
@@ -62,9 +47,19 @@ fn read_named(office: &Office, text: &[u8]) -> Result<Option<Code>, Refusal>
     ensures { viewed code_text_or result ≡ read_named (office_text office.now) text.now }
 {
     if text.is_empty() {
-        return Ok(None);
+        Ok(None)
+    } else {
+        Code::read_for(office, text).map(Some)
     }
-    Ok(Some(Code::read_for(office, text)?))
+}
+
+// Whatever is read after them, the two are read first, from left to right.
+fn read_dated(office: &Office, texts: &DatedFields) -> Result<Dated, Refusal>
+    ensures { (more : Text → Text → Result Order Refusal) → onward result (λ dated. more (date_text dated.date) (code_text dated.code)) ≡ read_dated (office_text office.now) texts.now.date.now texts.now.code.now more }
+{
+    let date = place(2, Date::read(texts.date))?;
+    let code = place(3, Code::read_for(office, texts.code))?;
+    Ok(Dated { date, code })
 }
 
 fn read_registration(
@@ -95,69 +90,25 @@ fn read_registration(
     })
 }
 
-fn read_creation(
-    office: &Office,
-    date: &[u8],
-    code: &[u8],
-    texts: &RegistrationFields,
-) -> Result<Command, Refusal>
-    ensures { viewed order_of result ≡ read_order (office_text office.now) (creates date.now code.now (texts_in texts.now)) }
-{
-    let date = place(2, Date::read(date))?;
-    let code = place(3, Code::read_for(office, code))?;
-    let registration = read_registration(office, &code, texts)?;
-    Ok(Command::Create {
-        date,
-        code,
-        registration,
-    })
-}
-
-fn read_change(
-    office: &Office,
-    date: &[u8],
-    code: &[u8],
-    texts: &RegistrationFields,
-) -> Result<Command, Refusal>
-    ensures { viewed order_of result ≡ read_order (office_text office.now) (changes date.now code.now (texts_in texts.now)) }
-{
-    let date = place(2, Date::read(date))?;
-    let code = place(3, Code::read_for(office, code))?;
-    let registration = read_registration(office, &code, texts)?;
-    Ok(Command::Change {
-        date,
-        code,
-        registration,
-    })
-}
-
 fn read_fields(office: &Office, request: &Request) -> Result<Command, Refusal>
     ensures { viewed order_of result ≡ read_order (office_text office.now) (order_in request.now) }
 {
     match request {
-        Request::Create {
-            date,
-            code,
-            registration,
-        } => read_creation(office, date, code, registration),
-        Request::Change {
-            date,
-            code,
-            registration,
-        } => read_change(office, date, code, registration),
-        Request::Deactivate { date, code } => {
-            let date = place(2, Date::read(date))?;
-            let code = place(3, Code::read_for(office, code))?;
-            Ok(Command::Deactivate { date, code })
+        Request::Create(dated, registration) => {
+            let dated = read_dated(office, dated)?;
+            let registration = read_registration(office, &dated.code, registration)?;
+            Ok(Command::Create(dated, registration))
         }
-        Request::Reactivate { date, code } => {
-            let date = place(2, Date::read(date))?;
-            let code = place(3, Code::read_for(office, code))?;
-            Ok(Command::Reactivate { date, code })
+        Request::Change(dated, registration) => {
+            let dated = read_dated(office, dated)?;
+            let registration = read_registration(office, &dated.code, registration)?;
+            Ok(Command::Change(dated, registration))
         }
-        Request::LookUp { code } => {
+        Request::Deactivate(dated) => Ok(Command::Deactivate(read_dated(office, dated)?)),
+        Request::Reactivate(dated) => Ok(Command::Reactivate(read_dated(office, dated)?)),
+        Request::LookUp(code) => {
             let code = place(2, Code::read_for(office, code))?;
-            Ok(Command::LookUp { code })
+            Ok(Command::LookUp(code))
         }
     }
 }

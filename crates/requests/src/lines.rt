@@ -1,7 +1,7 @@
 // A request as it stands in a line: each case holds slices of the line.
 ghost use Rattle.requests.specs.Views.{order_in, texts_in};
 ghost use Rattle.rulebook.specs.Requests.{cut_up, registration_in};
-ghost use Rattle.rulebook.specs.Texts.{viewed};
+ghost use Rattle.rulebook.specs.Texts.{field_of, viewed};
 ghost use Rattle.std.specs.Prelude.{◌≡◌};
 
 use super::cutting::{count, field};
@@ -9,6 +9,13 @@ use grounds::{Ground, Refusal};
 
 // The longest line.
 const LONGEST: usize = 194;
+
+// Fields 2 and 3.
+#[derive(Clone, Copy)]
+pub struct DatedFields<'a> {
+    pub date: &'a [u8],
+    pub code: &'a [u8],
+}
 
 // Fields 4 to 11.
 #[derive(Clone, Copy)]
@@ -25,27 +32,21 @@ pub struct RegistrationFields<'a> {
 
 #[derive(Clone, Copy)]
 pub enum Request<'a> {
-    Create {
-        date: &'a [u8],
-        code: &'a [u8],
-        registration: RegistrationFields<'a>,
-    },
-    Change {
-        date: &'a [u8],
-        code: &'a [u8],
-        registration: RegistrationFields<'a>,
-    },
-    Deactivate {
-        date: &'a [u8],
-        code: &'a [u8],
-    },
-    Reactivate {
-        date: &'a [u8],
-        code: &'a [u8],
-    },
-    LookUp {
-        code: &'a [u8],
-    },
+    Create(DatedFields<'a>, RegistrationFields<'a>),
+    Change(DatedFields<'a>, RegistrationFields<'a>),
+    Deactivate(DatedFields<'a>),
+    Reactivate(DatedFields<'a>),
+    LookUp(&'a [u8]),
+}
+
+fn dated_fields(line: &[u8]) -> DatedFields<'_>
+    ensures date { result.date.now ≡ field_of line.now 2 }
+    ensures code { result.code.now ≡ field_of line.now 3 }
+{
+    DatedFields {
+        date: field(line, 2),
+        code: field(line, 3),
+    }
 }
 
 fn registration_fields(line: &[u8]) -> RegistrationFields<'_>
@@ -75,27 +76,11 @@ pub fn read_request(line: &[u8]) -> Result<Request<'_>, Refusal>
         return Err(no_action);
     };
     match (char::from(*action), count(line)) {
-        ('C', 11) => Ok(Request::Create {
-            date: field(line, 2),
-            code: field(line, 3),
-            registration: registration_fields(line),
-        }),
-        ('U', 11) => Ok(Request::Change {
-            date: field(line, 2),
-            code: field(line, 3),
-            registration: registration_fields(line),
-        }),
-        ('D', 3) => Ok(Request::Deactivate {
-            date: field(line, 2),
-            code: field(line, 3),
-        }),
-        ('R', 3) => Ok(Request::Reactivate {
-            date: field(line, 2),
-            code: field(line, 3),
-        }),
-        ('L', 2) => Ok(Request::LookUp {
-            code: field(line, 2),
-        }),
+        ('C', 11) => Ok(Request::Create(dated_fields(line), registration_fields(line))),
+        ('U', 11) => Ok(Request::Change(dated_fields(line), registration_fields(line))),
+        ('D', 3) => Ok(Request::Deactivate(dated_fields(line))),
+        ('R', 3) => Ok(Request::Reactivate(dated_fields(line))),
+        ('L', 2) => Ok(Request::LookUp(field(line, 2))),
         ('C' | 'U' | 'D' | 'R' | 'L', _) => Err(Ground::FieldCount.into()),
         _ => Err(no_action),
     }
