@@ -9,7 +9,7 @@ ghost use Rattle.rulebook.specs.Requests.{Order, Verbatim, asked, read_dated, re
 ghost use Rattle.rulebook.specs.Texts.{Text, onward, placed, viewed};
 ghost use Rattle.std.specs.Prelude.{◌≡◌, Result};
 
-use super::lines::{DatedFields, RegistrationFields, Request, read_request};
+use super::lines::{DatedFields, RegistrationFields, Request};
 use eic::codes::Code;
 use eic::offices::Office;
 use fields::articles::Ean;
@@ -118,6 +118,6 @@ pub fn read_line(office: &Office, line: &[u8]) -> Result<Command, Refusal>
     ensures is { viewed order_of result ≡ asked (office_text office.now) line.now }
     ensures verbatim { Verbatim (office_text office.now) line.now }
 {
-    let request = read_request(line)?;
+    let request = Request::try_from(line)?;
     read_fields(office, &request)
 }

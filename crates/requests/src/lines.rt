@@ -65,23 +65,27 @@ fn registration_fields(line: &[u8]) -> RegistrationFields<'_>
 }
 
 // Length, then action, then number of fields.
-pub fn read_request(line: &[u8]) -> Result<Request<'_>, Refusal>
-    ensures { viewed order_in result ≡ cut_up line.now }
-{
-    if !(1..=LONGEST).contains(&line.len()) {
-        return Err(Ground::LineLength.into());
-    }
-    let no_action = Refusal::from(Ground::Action).in_field(1);
-    let [action] = field(line, 1) else {
-        return Err(no_action);
-    };
-    match (char::from(*action), count(line)) {
-        ('C', 11) => Ok(Request::Create(dated_fields(line), registration_fields(line))),
-        ('U', 11) => Ok(Request::Change(dated_fields(line), registration_fields(line))),
-        ('D', 3) => Ok(Request::Deactivate(dated_fields(line))),
-        ('R', 3) => Ok(Request::Reactivate(dated_fields(line))),
-        ('L', 2) => Ok(Request::LookUp(field(line, 2))),
-        ('C' | 'U' | 'D' | 'R' | 'L', _) => Err(Ground::FieldCount.into()),
-        _ => Err(no_action),
+impl<'a> TryFrom<&'a [u8]> for Request<'a> {
+    type Error = Refusal;
+
+    ghost try_from_gives = { λ line request. viewed order_in request ≡ cut_up line.now };
+
+    fn try_from(line: &'a [u8]) -> Result<Request<'a>, Refusal> {
+        if !(1..=LONGEST).contains(&line.len()) {
+            return Err(Ground::LineLength.into());
+        }
+        let no_action = Refusal::from(Ground::Action).in_field(1);
+        let [action] = field(line, 1) else {
+            return Err(no_action);
+        };
+        match (char::from(*action), count(line)) {
+            ('C', 11) => Ok(Request::Create(dated_fields(line), registration_fields(line))),
+            ('U', 11) => Ok(Request::Change(dated_fields(line), registration_fields(line))),
+            ('D', 3) => Ok(Request::Deactivate(dated_fields(line))),
+            ('R', 3) => Ok(Request::Reactivate(dated_fields(line))),
+            ('L', 2) => Ok(Request::LookUp(field(line, 2))),
+            ('C' | 'U' | 'D' | 'R' | 'L', _) => Err(Ground::FieldCount.into()),
+            _ => Err(no_action),
+        }
     }
 }
