@@ -26,6 +26,7 @@ pub struct Dated {
     pub code: Code,
 }
 
+// Kept: one enum for this and Request, as Asked<DatedFields<'a>, RegistrationFields<'a>, &'a [u8]>, is no plainer.
 #[derive(Clone, Copy)]
 pub enum Command {
     Create(Dated, Registration),
