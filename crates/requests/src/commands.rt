@@ -19,7 +19,7 @@ use fields::numbers::{Function, ObjectNumber};
 use grounds::Refusal;
 use records::Registration;
 
-// A code, and the date from which what is asked of it holds.
+// What every action but a look-up tells: its date and its code.
 #[derive(Clone, Copy)]
 pub struct Dated {
     pub date: Date,
@@ -54,7 +54,7 @@ fn read_named(office: &Office, text: &[u8]) -> Result<Option<Code>, Refusal>
     }
 }
 
-// Whatever is read after them, the two are read first, from left to right.
+// Fields 2 and 3, whatever is read after them.
 fn read_dated(office: &Office, texts: &DatedFields) -> Result<Dated, Refusal>
     ensures { (more : Text → Text → Result Order Refusal) → onward result (λ dated. more (date_text dated.date) (code_text dated.code)) ≡ read_dated (office_text office.now) texts.now.date.now texts.now.code.now more }
 {
