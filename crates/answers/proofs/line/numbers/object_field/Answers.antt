@@ -1,9 +1,0 @@
-use Rattle.std.proofs.Common.{arith, rules}
-use Rattle.answers.proofs.Lengths.{ten_digits}
-use Rattle.answers.proofs.line.numbers.object_field.Goals as goal
-
-pub number_field-requires : goal.number_field-requires
-number_field-requires c = omega (arith, ten_digits c.number.result (omega arith))
-
-pub returns : goal.returns
-returns c = record { len = omega (arith, ten_digits c.number.result (omega arith)); is = search rules }
