@@ -1,17 +1,17 @@
 -- No text of a record holds a comma, so that its fields are read back. Assumes nothing.
-use Rattle.std.proofs.Common.{◌≡◌, ℕ, suc, ◌^◌, ◌<◌, Bool, true, false, cond, ◌&&◌, ◌||◌, eqb, ltb, leb, List, [], ◌∷◌, ◌++◌, length, Some, None, codes, decimal, Option, sym, refl, ap, ◌∙◌, arith, rules}
+use Rattle.std.proofs.Common.{◌≡◌, ℕ, suc, ◌^◌, ◌<◌, Bool, true, false, cond, ◌&&◌, ◌||◌, eqb, ltb, leb, List, [], ◌∷◌, ◌++◌, length, get_or, Some, None, codes, decimal, Option, sym, refl, ap, ◌∙◌, arith, rules}
 use Rattle.std.specs.Str.{all_ascii_digits}
 use Rattle.std.proofs.lemmas.Fmt.{digits_decimal}
 use Rattle.std.proofs.lemmas.Bool.{and_parts, and_right, both_ways, cond-false, ne_eqb}
 use Rattle.rulebook.specs.Texts.{Text, fields, on_first}
-use Rattle.rulebook.specs.Schemes.{Scheme, first_unlawful, is_right}
+use Rattle.rulebook.specs.Schemes.{Scheme, is_right}
 use Rattle.rulebook.specs.Codes.{eic, is_digit, is_capital, is_minus, is_type, lawful_at}
 use Rattle.rulebook.specs.Articles.{ean13}
 use Rattle.rulebook.specs.Dates.{written_day}
 use Rattle.rulebook.specs.Fields.{all_of, up_to, is_name_byte, is_display_byte, is_vat_byte}
 use Rattle.rulebook.specs.Records.{status_text, texts}
 use Rattle.rulebook.specs.Answers.{tails, granted_fields}
-use Rattle.rulebook.proofs.Rights.{right_parts}
+use Rattle.rulebook.proofs.Rights.{right_parts, lawful_at_lem}
 use Rattle.fields.proofs.Decimals.{by_digits}
 use Rattle.eic.specs.Views.{code_text}
 use Rattle.eic.specs.declared.codes.Code.{Code}
@@ -52,20 +52,13 @@ module _ (test : ℕ → Bool) (no : test 44 ≡ false) where
   plain_up_to : (n : ℕ) (t : Text) → up_to n test t ≡ true → Plain t
   plain_up_to n t e = plain_all t (and_parts (leb (length t) n) (all_of test t) (and_parts (leb 1 (length t)) _ e).1).1
 
+plain_from : (t : Text) → ((i : ℕ) → i < length t → get_or t i 0 ≡ 44 → ⊥) → Plain t
+plain_from [] p = tt
+plain_from (b ∷ bs) p = (p 0 (omega arith), plain_from bs (λ i h. p (suc i) (omega arith)))
+
 -- a scheme in which the comma is nowhere lawful
-module _ (s : Scheme) (no : (i : ℕ) → s.lawful i 44 ≡ false) where
-  lawful_here : (o : Bool) (rest : Option ℕ) (i : ℕ) → cond o rest (Some i) ≡ None → (o ≡ true) × (rest ≡ None)
-  lawful_here true rest i e = (refl, e)
-  lawful_here false rest i e = let z : ◌≡◌ {A = ℕ} 0 1 = cc in absurd (omega arith)
-
-  plain_lawful : (i : ℕ) (t : Text) → first_unlawful s i t ≡ None → Plain t
-  plain_lawful i [] e = tt
-  plain_lawful i (b ∷ bs) e =
-      let p = lawful_here (s.lawful i b) (first_unlawful s (suc i) bs) (suc i) e in
-      (not_comma (s.lawful i) (no i) b p.0, plain_lawful (suc i) bs p.1)
-
-  plain_right : (t : Text) → is_right s t ≡ true → Plain t
-  plain_right t e = plain_lawful 0 t (right_parts s t e).lawful
+plain_right : (s : Scheme) → ((i : ℕ) → s.lawful i 44 ≡ false) → (t : Text) → is_right s t ≡ true → Plain t
+plain_right s never t e = plain_from t (λ i h. not_comma (s.lawful i) (never i) (get_or t i 0) (lawful_at_lem (right_parts s t e) i h))
 
 no_comma_eic : (i : ℕ) → lawful_at i 44 ≡ false
 no_comma_eic i = elim (eqb i 2) as (λ v. cond v (is_type 44) (ltb i 16 && (is_digit 44 || (is_capital 44 || (is_minus 44 && (leb 3 i && ltb i 15))))) ≡ false) [ true ↦ refl | false ↦ and_right (ltb i 16) false refl ]
@@ -99,9 +92,10 @@ plain_vat v =
 plain_ean : (e : Ean) → Plain (ean_text e)
 plain_ean e = plain_right ean13 no_comma_ean e.digits e.right
 
-plain_or : {X : Type 0} (f : X → Text) → ((x : X) → Plain (f x)) → (o : Option X) → Plain (text_or f o)
-plain_or f plain None = tt
-plain_or f plain (Some x) = plain x
+-- a field that may be blank
+pub holds_or : {X : Type 0} (P : Text → Type 0) (f : X → Text) → P [] → ((x : X) → P (f x)) → (o : Option X) → P (text_or f o)
+holds_or P f blank given None = blank
+holds_or P f blank given (Some x) = given x
 
 plain_registration : (g : Registration) → AllPlain (texts (registration_texts g))
 plain_registration g =
@@ -109,10 +103,10 @@ plain_registration g =
     let function = plain_decimal g.function.number (omega (arith, g.function.small)) in
     let name = plain_up_to is_name_byte refl 70 (name_text g.name) g.name.lawful in
     let display = plain_up_to is_display_byte refl 16 (display_text g.display) g.display.lawful in
-    let parent = plain_or code_text plain_code g.parent in
-    let responsible = plain_or code_text plain_code g.responsible in
-    let vat = plain_or vat_text plain_vat g.vat in
-    let ean = plain_or ean_text plain_ean g.ean in
+    let parent = holds_or Plain code_text tt plain_code g.parent in
+    let responsible = holds_or Plain code_text tt plain_code g.responsible in
+    let vat = holds_or Plain vat_text tt plain_vat g.vat in
+    let ean = holds_or Plain ean_text tt plain_ean g.ean in
     (object, (function, (name, (display, (parent, (responsible, (vat, (ean, tt))))))))
 
 pub reads_back : (r : Record) → ReadsBack (entry_of r)

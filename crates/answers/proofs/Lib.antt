@@ -1,2 +1,2 @@
-mod Lengths
 mod Commas
+mod Lengths

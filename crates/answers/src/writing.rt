@@ -71,7 +71,9 @@ pub fn write_refusal(refusal: &Refusal, buffer: &mut [u8]) -> usize
     ensures filled { buffer.new ≡ filled (refused_line refusal.now) buffer.old }
     ensures short { result ≤ 14 }
 {
-    let (mut ground, mut field, mut position) = (Buffer::new(), Buffer::new(), Buffer::new());
+    let mut ground = Buffer::new();
+    let mut field = Buffer::new();
+    let mut position = Buffer::new();
     let fields = [
         ground.format(u8::from(refusal.ground)).as_bytes(),
         field.format(refusal.field).as_bytes(),

@@ -9,7 +9,7 @@ abbrev pub IsOnTheWay : Text → Text → Text → ℕ → Text → Type 0
 IsOnTheWay line was buffer end to_come = record {
   room : end + length to_come ≤ 200;
   text : take end buffer ++ to_come ≡ line;
-  rest : drop end buffer ≡ drop end was;
+  rest : (n : ℕ) → end ≤ n → drop n buffer ≡ drop n was;
 }
 
 abbrev pub invariant-loop-field : goal.invariant-loop-field
