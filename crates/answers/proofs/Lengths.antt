@@ -1,6 +1,7 @@
 -- How long a record's answer line is. Assumes nothing.
-use Rattle.std.proofs.Common.{◌≡◌, ℕ, ◌+◌, ◌≤◌, List, [], ◌∷◌, ◌++◌, codes, Bool, true, false, length, refl, ap, length-append, length-take, arith}
+use Rattle.std.proofs.Common.{◌≡◌, ℕ, ◌+◌, ◌≤◌, List, [], ◌∷◌, ◌++◌, codes, sum_by, Bool, true, false, length, refl, ap, length-append, length-take, arith}
 use Rattle.std.proofs.lemmas.Fmt.{length-decimal-le}
+use Rattle.std.proofs.lemmas.List.Sums.{sum_by-cons}
 use Rattle.rulebook.specs.Texts.{Text}
 use Rattle.rulebook.specs.Codes.{eic}
 use Rattle.rulebook.specs.Articles.{ean13}
@@ -18,13 +19,9 @@ use Rattle.records.specs.declared.Record.{Record}
 use Rattle.answers.proofs.Commas.{holds_or}
 
 -- each field is one byte longer with its comma
-abbrev total : List Text → ℕ
-total [] = 0
-total (f ∷ fs) = length f + 1 + total fs
-
-length_tails : (fs : List Text) → length (tails fs) ≡ total fs
+length_tails : (fs : List Text) → length (tails fs) ≡ sum_by (λ f. length f + 1) fs
 length_tails [] = refl
-length_tails (f ∷ fs) = omega (arith, length-append (44 ∷ f) (tails fs), length_tails fs)
+length_tails (f ∷ fs) = omega (arith, length-append (44 ∷ f) (tails fs), sum_by-cons (λ f. length f + 1) f fs, length_tails fs)
 
 long_code : (c : Code) → length (code_text c) ≤ 16
 long_code c = omega (arith, (right_parts eic c.bytes c.sound).long)
