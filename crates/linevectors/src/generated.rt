@@ -28,16 +28,11 @@ fn below(seed: u64, n: usize) -> usize {
     ((seed >> 33) % n as u64) as usize
 }
 
-// Number, field and position of the refusal, or zeroes.
-fn read(office: &Office, line: &[u8]) -> (u8, u8, u8) {
-    match read_line(office, line) {
-        Ok(_) => (0, 0, 0),
-        Err(refusal) => (u8::from(refusal.ground), refusal.field, refusal.position),
-    }
-}
-
 fn agree(rt: &impl Abort, office: &Office, line: &[u8]) -> Result<(), Fail> {
-    assert_eq!(rt; read(office, line), second::refusal(b"9Q", line));
+    assert_eq!(rt;
+        read_line(office, line).err(),
+        second::check(b"9Q", line).err()
+    );
     Ok(())
 }
 
@@ -68,7 +63,7 @@ fn lines(rt: HostRuntime) -> Result<(), Fail> {
     };
     let mut seed = 194;
     for line in LINES {
-        assert_eq!(rt; read(&office, line), (0, 0, 0));
+        assert!(rt; read_line(&office, line).is_ok());
         agree(&rt, &office, line)?;
         for _ in 0..1500 {
             seed = stepped(seed);

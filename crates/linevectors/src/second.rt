@@ -1,8 +1,10 @@
 // The rules of a request line by another method, which shares nothing with the proved ones: fields
 // are found by counting commas, days come from a table, numbers are counted by their length, and a
 // code is checked by a running sum of running sums.
+use grounds::{Ground, Refusal};
 
 // The field after so many commas.
+// Kept: commas are counted by hand, since `line.split(|b| *b == b',').nth(after)` is how the proved code goes.
 fn field(line: &[u8], after: usize) -> &[u8] {
     let mut start = 0;
     let mut commas: usize = 0;
@@ -23,24 +25,13 @@ fn field(line: &[u8], after: usize) -> &[u8] {
 }
 
 fn commas(line: &[u8]) -> usize {
-    let mut n: usize = 0;
-    for byte in line {
-        if *byte == b',' {
-            n = n.saturating_add(1);
-        }
-    }
-    n
+    line.iter().filter(|byte| **byte == b',').count()
 }
 
-fn value(character: u8) -> u32 {
-    let mut v: u32 = 0;
-    for c in b"0123456789ABCDEFGHIJKLMNOPQRSTUVWXYZ-" {
-        if *c == character {
-            return v;
-        }
-        v = v.saturating_add(1);
-    }
-    0
+fn value(character: u8) -> Option<usize> {
+    b"0123456789ABCDEFGHIJKLMNOPQRSTUVWXYZ-"
+        .iter()
+        .position(|c| *c == character)
 }
 
 fn fits(place: usize, character: u8) -> bool {
@@ -51,47 +42,49 @@ fn fits(place: usize, character: u8) -> bool {
     }
 }
 
-// Ground and position, or two zeroes.
-fn code(office: &[u8; 2], text: &[u8]) -> (u8, u8) {
+// Kept: the tests of codes have these sums too, and to share them would need a library of public calls, each of which
+// has to state its outcome by a rule of the project: then it would be the first implementation again.
+fn code(office: &[u8; 2], text: &[u8]) -> Result<(), Refusal> {
     if text.len() != 16 {
-        return (6, 0);
+        return Err(Ground::CodeForm.into());
     }
-    let mut position: u8 = 0;
-    let mut running: u32 = 0;
-    let mut total: u32 = 0;
-    for (place, character) in text.iter().enumerate() {
-        position = position.saturating_add(1);
+    let mut running: usize = 0;
+    let mut total: usize = 0;
+    for ((place, character), position) in text.iter().enumerate().zip(1..=16) {
         if !fits(place, *character) {
-            return (6, position);
+            return Err(Refusal::new(Ground::CodeForm, position));
         }
-        running = running.saturating_add(value(*character)) % 37;
+        running = running.saturating_add(value(*character).unwrap_or(0)) % 37;
         total = total.saturating_add(running) % 37;
     }
-    if text[0] != office[0] || text[1] != office[1] {
-        return (7, 0);
+    if !text.starts_with(office) {
+        return Err(Ground::OtherOffice.into());
     }
-    if total == 0 { (0, 0) } else { (8, 0) }
+    if total != 0 {
+        return Err(Ground::CheckCharacter.into());
+    }
+    Ok(())
+}
+
+fn code_or_blank(office: &[u8; 2], text: &[u8]) -> Result<(), Refusal> {
+    if text.is_empty() {
+        Ok(())
+    } else {
+        code(office, text)
+    }
 }
 
 fn all_in(set: &[u8], text: &[u8]) -> bool {
-    for byte in text {
-        if !set.contains(byte) {
-            return false;
-        }
-    }
-    true
+    text.iter().all(|byte| set.contains(byte))
 }
 
-fn two(text: &[u8], at: usize) -> usize {
-    if at.saturating_add(2) > text.len()
-        || !text[at].is_ascii_digit()
-        || !text[at + 1].is_ascii_digit()
-    {
-        return 100;
+fn two(text: &[u8], at: usize) -> Option<usize> {
+    match text.get(at..)? {
+        [tens @ b'0'..=b'9', ones @ b'0'..=b'9', ..] => {
+            Some(usize::from(*tens - b'0') * 10 + usize::from(*ones - b'0'))
+        }
+        _ => None,
     }
-    let tens = text[at] - b'0';
-    let ones = text[at + 1] - b'0';
-    tens as usize * 10 + ones as usize
 }
 
 fn is_date(text: &[u8]) -> bool {
@@ -103,14 +96,11 @@ fn is_date(text: &[u8]) -> bool {
     {
         return false;
     }
-    let year = two(text, 2);
-    let month = two(text, 5);
-    let day = two(text, 8);
-    if year == 100 || day == 0 {
+    let (Some(year), Some(month), Some(day)) = (two(text, 2), two(text, 5), two(text, 8)) else {
         return false;
-    }
+    };
     let days: [usize; 13] = [0, 31, 28, 31, 30, 31, 30, 31, 31, 30, 31, 30, 31];
-    if month > 12 {
+    if month > 12 || day == 0 {
         return false;
     }
     if month == 2 && year % 4 == 0 {
@@ -128,12 +118,7 @@ fn is_number(most: usize, text: &[u8]) -> bool {
 }
 
 fn is_name(text: &[u8]) -> bool {
-    for byte in text {
-        if *byte < b' ' || *byte > b'~' {
-            return false;
-        }
-    }
-    !text.is_empty() && text.len() < 71
+    !text.is_empty() && text.len() < 71 && text.iter().all(|byte| (b' '..=b'~').contains(byte))
 }
 
 fn is_display(text: &[u8]) -> bool {
@@ -163,83 +148,55 @@ fn is_ean(text: &[u8]) -> bool {
     sum % 10 == 0
 }
 
-// Number, field and position of the refusal of fields 4 to 11, or zeroes.
-fn registration(office: &[u8; 2], line: &[u8], party: bool) -> (u8, u8, u8) {
-    if !is_number(10, field(line, 3)) {
-        return (9, 4, 0);
+fn rule(field: u8, kept: bool) -> Result<(), Refusal> {
+    if kept {
+        Ok(())
+    } else {
+        Err(Refusal::from(Ground::FieldRule).in_field(field))
     }
-    if !is_number(2, field(line, 4)) {
-        return (9, 5, 0);
-    }
-    if !is_name(field(line, 5)) {
-        return (9, 6, 0);
-    }
-    if !is_display(field(line, 6)) {
-        return (9, 7, 0);
-    }
-    let (ground, position) = code(office, field(line, 7));
-    if ground != 0 && !field(line, 7).is_empty() {
-        return (ground, 8, position);
-    }
-    let (ground, position) = code(office, field(line, 8));
-    if ground != 0 && !field(line, 8).is_empty() {
-        return (ground, 9, position);
-    }
-    rest(line, party)
 }
 
-fn rest(line: &[u8], party: bool) -> (u8, u8, u8) {
+// Fields 4 to 11.
+fn registration(office: &[u8; 2], line: &[u8], party: bool) -> Result<(), Refusal> {
+    rule(4, is_number(10, field(line, 3)))?;
+    rule(5, is_number(2, field(line, 4)))?;
+    rule(6, is_name(field(line, 5)))?;
+    rule(7, is_display(field(line, 6)))?;
+    code_or_blank(office, field(line, 7)).map_err(|refusal| refusal.in_field(8))?;
+    code_or_blank(office, field(line, 8)).map_err(|refusal| refusal.in_field(9))?;
     let vat = field(line, 9);
-    if !vat.is_empty() && (!party || !is_vat(vat)) {
-        return (9, 10, 0);
-    }
+    rule(10, vat.is_empty() || (party && is_vat(vat)))?;
     let ean = field(line, 10);
-    if !ean.is_empty() && (!party || !is_ean(ean)) {
-        return (9, 11, 0);
-    }
-    (0, 0, 0)
+    rule(11, ean.is_empty() || (party && is_ean(ean)))
 }
 
-fn dated(office: &[u8; 2], line: &[u8], long: bool) -> (u8, u8, u8) {
+fn dated(office: &[u8; 2], line: &[u8], long: bool) -> Result<(), Refusal> {
     if commas(line) != if long { 10 } else { 2 } {
-        return (4, 0, 0);
+        return Err(Ground::FieldCount.into());
     }
     if !is_date(field(line, 1)) {
-        return (5, 2, 0);
+        return Err(Refusal::from(Ground::Date).in_field(2));
     }
     let text = field(line, 2);
-    let (ground, position) = code(office, text);
-    if ground != 0 {
-        return (ground, 3, position);
+    code(office, text).map_err(|refusal| refusal.in_field(3))?;
+    if long {
+        registration(office, line, text.get(2) == Some(&b'X'))?;
     }
-    if long && text.len() == 16 {
-        return registration(office, line, text[2] == b'X');
-    }
-    (0, 0, 0)
+    Ok(())
 }
 
-// Number, field and position of the refusal of a line, or zeroes.
-pub(crate) fn refusal(office: &[u8; 2], line: &[u8]) -> (u8, u8, u8) {
+// Whether a line is lawful for an office, or why not.
+pub(crate) fn check(office: &[u8; 2], line: &[u8]) -> Result<(), Refusal> {
     if line.is_empty() || line.len() > 194 {
-        return (2, 0, 0);
+        return Err(Ground::LineLength.into());
     }
-    let action = field(line, 0);
-    if action == b"C".as_slice() || action == b"U".as_slice() {
-        return dated(office, line, true);
-    }
-    if action == b"D".as_slice() || action == b"R".as_slice() {
-        return dated(office, line, false);
-    }
-    if action != b"L".as_slice() {
-        return (3, 1, 0);
-    }
-    if commas(line) != 1 {
-        return (4, 0, 0);
-    }
-    let (ground, position) = code(office, field(line, 1));
-    if ground == 0 {
-        (0, 0, 0)
-    } else {
-        (ground, 2, position)
+    match field(line, 0) {
+        b"C" | b"U" => dated(office, line, true),
+        b"D" | b"R" => dated(office, line, false),
+        b"L" if commas(line) == 1 => {
+            code(office, field(line, 1)).map_err(|refusal| refusal.in_field(2))
+        }
+        b"L" => Err(Ground::FieldCount.into()),
+        _ => Err(Refusal::from(Ground::Action).in_field(1)),
     }
 }

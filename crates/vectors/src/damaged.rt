@@ -21,7 +21,10 @@ fn replaced_everywhere(rt: &impl Abort, code: &[u8; 16]) {
     for place in 0..16 {
         for byte in 0..=255 {
             let text = replaced(code, place, byte);
-            assert_eq!(rt; gateway::eic_soundness(&text), second::soundness(&text));
+            assert_eq!(rt;
+                gateway::eic_soundness(&text),
+                second::number(second::soundness(&text).map(|()| 0))
+            );
             assert_eq!(rt; is_sound(&text), text == *code);
         }
     }
@@ -42,7 +45,7 @@ fn two_exchanged(rt: HostRuntime) {
         for j in 0..16usize {
             let text = replaced(&replaced(code, i, code[j]), j, code[i]);
             assert_eq!(rt; is_sound(&text), text == *code);
-            assert_eq!(rt; second::soundness(&text) == 0, text == *code);
+            assert_eq!(rt; second::soundness(&text).is_ok(), text == *code);
         }
     }
 }
@@ -54,7 +57,7 @@ fn articles_replaced(rt: HostRuntime) {
         for byte in 0..=255 {
             let mut text = *article;
             text[place] = byte;
-            assert_eq!(rt; gateway::eic_ean(&text), second::ean(&text));
+            assert_eq!(rt; gateway::eic_ean(&text), second::number(second::ean(&text).map(|()| 0)));
             assert_eq!(rt; is_ean(&text), text == *article);
         }
     }
@@ -93,11 +96,14 @@ fn generated(seed: u64) -> [u8; 15] {
 // both; or trial finds none, and the refusal is on ground 8.
 fn completed_by_both(rt: &impl Abort, text: &[u8; 15]) {
     let number = gateway::eic_check_character(text);
-    assert_eq!(rt; number, second::check_character(text));
+    assert_eq!(rt;
+        number,
+        second::number(second::check_character(text))
+    );
     if let Ok(last) = check_character(text) {
         let code = second::completed(text, last);
         assert!(rt; is_sound(&code));
-        assert_eq!(rt; second::soundness(&code), 0);
+        assert_eq!(rt; second::soundness(&code), Ok(()));
     }
 }
 
@@ -136,8 +142,7 @@ fn read_for_an_office(rt: HostRuntime) -> Result<(), Fail> {
 }
 
 fn ground_of(office: &Office, text: &[u8]) -> Option<Ground> {
-    match Code::read_for(office, text) {
-        Ok(_) => None,
-        Err(refusal) => Some(refusal.ground),
-    }
+    Code::read_for(office, text)
+        .err()
+        .map(|refusal| refusal.ground)
 }

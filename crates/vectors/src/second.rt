@@ -1,16 +1,12 @@
 // The check of codes and article numbers by another method, which shares nothing with the proved
 // one: a running sum of running sums in place of products with weights, trial of every candidate in
 // place of the inverse, and the check digit counted out in place of the sum.
+use grounds::Ground;
 
-fn value(character: u8) -> Option<u32> {
-    let mut v = 0;
-    for c in b"0123456789ABCDEFGHIJKLMNOPQRSTUVWXYZ-" {
-        if *c == character {
-            return Some(v);
-        }
-        v = v.saturating_add(1);
-    }
-    None
+const CHARACTERS: &[u8] = b"0123456789ABCDEFGHIJKLMNOPQRSTUVWXYZ-";
+
+fn value(character: u8) -> Option<usize> {
+    CHARACTERS.iter().position(|c| *c == character)
 }
 
 fn fits(place: usize, character: u8) -> bool {
@@ -22,21 +18,24 @@ fn fits(place: usize, character: u8) -> bool {
         || (character == b'-' && place > 2 && place < 15)
 }
 
-// 0 for a sound code, else the number of the ground.
-pub(crate) fn soundness(text: &[u8]) -> u32 {
+pub(crate) fn soundness(text: &[u8]) -> Result<(), Ground> {
     if text.len() != 16 {
-        return 6;
+        return Err(Ground::CodeForm);
     }
-    let mut running: u32 = 0;
-    let mut total: u32 = 0;
+    let mut running: usize = 0;
+    let mut total: usize = 0;
     for (place, character) in text.iter().enumerate() {
         if !fits(place, *character) {
-            return 6;
+            return Err(Ground::CodeForm);
         }
         running = running.saturating_add(value(*character).unwrap_or(0)) % 37;
         total = total.saturating_add(running) % 37;
     }
-    if total == 0 { 0 } else { 8 }
+    if total == 0 {
+        Ok(())
+    } else {
+        Err(Ground::CheckCharacter)
+    }
 }
 
 pub(crate) fn completed(text: &[u8; 15], last: u8) -> [u8; 16] {
@@ -45,31 +44,29 @@ pub(crate) fn completed(text: &[u8; 15], last: u8) -> [u8; 16] {
     code
 }
 
-// The check character of fifteen lawful characters, or the number of the ground.
-pub(crate) fn check_character(text: &[u8; 15]) -> u32 {
-    for last in b'0'..=b'Z' {
-        if soundness(&completed(text, last)) == 0 {
-            return u32::from(last);
-        }
+// The check character of fifteen characters.
+pub(crate) fn check_character(text: &[u8; 15]) -> Result<u8, Ground> {
+    if !text
+        .iter()
+        .enumerate()
+        .all(|(place, character)| fits(place, *character))
+    {
+        return Err(Ground::CodeForm);
     }
-    for (place, character) in text.iter().enumerate() {
-        if !fits(place, *character) {
-            return 6;
-        }
-    }
-    8
+    (b'0'..=b'Z')
+        .find(|last| soundness(&completed(text, *last)).is_ok())
+        .ok_or(Ground::CheckCharacter)
 }
 
-// 0 for a right EAN-13, else 9.
-pub(crate) fn ean(text: &[u8]) -> u32 {
+pub(crate) fn ean(text: &[u8]) -> Result<(), Ground> {
     if text.len() != 13 {
-        return 9;
+        return Err(Ground::FieldRule);
     }
     let mut needed: u32 = 0;
     let mut last: u32 = 0;
     for (place, character) in text.iter().enumerate() {
         if !character.is_ascii_digit() {
-            return 9;
+            return Err(Ground::FieldRule);
         }
         needed = needed.saturating_add(last) % 10;
         last = u32::from(*character - b'0');
@@ -78,8 +75,13 @@ pub(crate) fn ean(text: &[u8]) -> u32 {
         }
     }
     if (10 - needed % 10) % 10 == last {
-        0
+        Ok(())
     } else {
-        9
+        Err(Ground::FieldRule)
     }
+}
+
+// The one number that the gateway answers.
+pub(crate) fn number(outcome: Result<u8, Ground>) -> u32 {
+    u32::from(outcome.unwrap_or_else(u8::from))
 }
