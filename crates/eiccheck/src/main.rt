@@ -4,10 +4,11 @@
 mod verdicts;
 
 use eic::codes::Code;
+use feed::answering::Answerer;
 use feed::lines::LineReader;
 use grounds::{Ground, Refusal};
 use std::io;
-use std::io::{BufWriter, Read, Write};
+use std::io::{BufWriter, Write};
 use verdicts::{Verdict, examine};
 
 // One byte over the longest text that has a verdict of its own, so that a longer line is kept as
@@ -62,31 +63,21 @@ fn write_verdict<W: Write>(out: &mut W, verdict: &Verdict) -> io::Result<()> {
     }
 }
 
-fn answer<W: Write>(out: &mut W, number: u64, text: &[u8]) -> io::Result<()> {
-    let verdict = examine(text);
-    write!(out, "{number}: ")?;
-    write_verdict(out, &verdict)?;
-    out.write_all(b"\n")
-}
+// Tells what it finds of each line.
+#[derive(Drop)]
+struct Clerk;
 
-fn run<R: Read, W: Write>(input: &mut R, out: &mut W) -> io::Result<()> {
-    let mut lines = LineReader::<KEPT>::new();
-    let mut number: u64 = 0;
-    for _ in 0..u64::MAX {
-        if lines.is_drained() {
-            out.flush()?;
-        }
-        if !lines.read_next(input)? {
-            break;
-        }
-        number = number.saturating_add(1);
-        answer(out, number, lines.line())?;
+impl Answerer for Clerk {
+    fn answer<W: Write>(&mut self, out: &mut W, number: u64, text: &[u8]) -> io::Result<()> {
+        let verdict = examine(text);
+        write!(out, "{number}: ")?;
+        write_verdict(out, &verdict)?;
+        out.write_all(b"\n")
     }
-    out.flush()
 }
 
 fn main(rt: HostRuntime) -> io::Result<()> {
     let mut input = rt.stdin();
     let mut out = BufWriter::new(rt.alloc(), rt.stdout())?;
-    run(&mut input, &mut out)
+    LineReader::<KEPT>::new().answer_all(&mut input, &mut out, &mut Clerk)
 }

@@ -1,9 +1,18 @@
 -- The first n of what is kept and what comes after, and an input that is read up to its first byte 10. Assumes nothing.
-use Rattle.std.proofs.Common.{◌≡◌, ℕ, zero, suc, ◌+◌, ◌-◌, ◌<◌, ◌≤◌, Bool, true, false, cond, eqb, [], ◌∷◌, ◌++◌, length, get_or, take, drop, set, is_some, Some, None, Option, sym, refl, ap, ◌∙◌, subst, append_assoc, add-one, arith}
-use Rattle.std.proofs.lemmas.List.{at_drop_more, at_drop_all, take_all, take_more_set, take-append-le, length_push, length-take-le, append-nil, length-drop, drop-drop, drop-take}
-use Rattle.std.proofs.lemmas.Bool.{eq-eqb, ne_eqb, cond-true, cond-false, both_ways}
+use Rattle.std.proofs.Common.{◌≡◌, ℕ, zero, suc, ◌+◌, ◌-◌, ◌≤◌, Bool, true, false, cond, true, false, not, is_some, [], ◌∷◌, ◌++◌, length, take, drop, is_some, Some, None, Option, sym, refl, ap, ◌∙◌, subst, append_assoc, add-one, zero-le, arith}
+use Rattle.std.specs.Prelude.{position, slice_range, MatchOption, ◌==◌}
+use Rattle.std.specs.Option.{option_map}
+use Rattle.std.specs.List.{position_from}
+use Rattle.std.proofs.lemmas.List.{take_all, append-nil, nil_from_length, length-take, drop-drop, drop-take}
+use Rattle.std.proofs.lemmas.Iterator.Adapters.{position_from-zero}
+use Rattle.std.proofs.lemmas.Bool.{eqb-true, not-false, cond-true, cond-false}
+use Rattle.std.specs.Prelude.{Result, Ok, Err, IfOk, OnOk}
+use Rattle.std.specs.Borrow.{Bor}
+use Rattle.std.proofs.lemmas.Result.{IfOk-at_ok}
 use Rattle.rulebook.specs.Texts.{Text}
-use Rattle.feed.specs.Readers.{part_of, Next, NextBy}
+use Rattle.feed.specs.Shown.{shown}
+use Rattle.feed.specs.Cuts.{Cuts}
+use Rattle.feed.specs.Readers.{Begun, Next, NextBy}
 use Rattle.rulebook.specs.Lines.{to_end, after_end, lines_after}
 
 -- a cut that is made again is made once
@@ -12,86 +21,118 @@ take_front zero xs zs = refl
 take_front (suc n) [] zs = refl
 take_front (suc n) (x ∷ xs) zs = ap (λ (l : Text). x ∷ l) (take_front n xs zs)
 
--- one byte more is kept where there is room
-pub push_kept : (n used b : ℕ) (bytes : Text) → used < n → length bytes ≡ n → take (used + 1) (set bytes used b) ≡ take n (take used bytes ++ (b ∷ []))
-push_kept n used b bytes h l =
-    let k = take used bytes ++ (b ∷ []) in
-    take_more_set bytes used b (omega arith) ∙ sym (take_all n k (omega (arith, length_push (take used bytes) b, length-take-le used bytes (omega arith))))
-
--- and none where there is none
-pub push_full : (n used b : ℕ) (bytes : Text) → n ≤ used → used ≤ n → length bytes ≡ n → take used bytes ≡ take n (take used bytes ++ (b ∷ []))
-push_full n used b bytes h w l =
-    let k : n ≤ length (take used bytes) = omega (arith, length-take-le used bytes (omega arith)) in
-    sym (take-append-le n (take used bytes) (b ∷ []) k ∙ take_all n (take used bytes) (omega (arith, length-take-le used bytes (omega arith))))
-
-module _ (t : Text) (i : ℕ) (h : i < length t) where
-  pub end_here : get_or t i 0 ≡ 10 → (to_end (drop i t) ≡ []) × (after_end i (drop i t) ≡ Some (i + 1))
-  end_here e =
-      let b = eq-eqb (get_or t i 0) 10 e in
-      (at_drop_more to_end t i 0 h ∙ cond-true _ _ _ b, at_drop_more (after_end i) t i 0 h ∙ cond-true _ _ _ b ∙ rw add-one)
-
-  pub end_later : (get_or t i 0 ≡ 10 → ⊥) → (to_end (drop i t) ≡ get_or t i 0 ∷ to_end (drop (i + 1) t)) × (after_end i (drop i t) ≡ after_end (i + 1) (drop (i + 1) t))
-  end_later e =
-      let b = ne_eqb (get_or t i 0) 10 e in
-      (at_drop_more to_end t i 0 h ∙ cond-false _ _ _ b, at_drop_more (after_end i) t i 0 h ∙ cond-false _ _ _ b ∙ rw add-one)
-
-pub end_none : (t : Text) (i : ℕ) → length t ≤ i → (to_end (drop i t) ≡ []) × (after_end i (drop i t) ≡ None)
-end_none t i h = (at_drop_all to_end t i h, at_drop_all (after_end i) t i h)
-
 -- with nothing more to come, all that is kept stays
-pub kept_whole : (n used : ℕ) (bytes more : Text) → used ≤ n → length bytes ≡ n → more ≡ [] → take n (take used bytes ++ more) ≡ take used bytes
-kept_whole n used bytes more w l e =
-    ap (λ (m : Text). take n (take used bytes ++ m)) e ∙ ap (take n) (append-nil (take used bytes)) ∙ take_all n (take used bytes) (omega (arith, length-take-le used bytes (omega arith)))
-
--- one byte goes from what comes to what is kept
-pub kept_more : (n b : ℕ) (before after rest now : Text) → after ≡ take n (before ++ (b ∷ [])) → now ≡ b ∷ rest → take n (after ++ rest) ≡ take n (before ++ now)
-kept_more n b before after rest now a e =
-    ap (λ (k : Text). take n (k ++ rest)) a ∙ take_front n (before ++ (b ∷ [])) rest
-    ∙ ap (take n) (append_assoc before (b ∷ []) rest ∙ ap (λ (m : Text). before ++ m) (sym e))
-
--- the lines to come, one byte on and at the end of a line or of the piece
-module _ (n : ℕ) (line t more : Text) (i : ℕ) where
-  pub lines_end : i < length t → get_or t i 0 ≡ 10 → lines_after n line (drop i t ++ more) ≡ line ∷ lines_after n [] (drop (i + 1) t ++ more)
-  lines_end h e = at_drop_more (λ (l : Text). lines_after n line (l ++ more)) t i 0 h ∙ cond-true _ _ _ (eq-eqb (get_or t i 0) 10 e)
-
-  pub lines_on : i < length t → (get_or t i 0 ≡ 10 → ⊥) → lines_after n line (drop i t ++ more) ≡ lines_after n (take n (line ++ (get_or t i 0 ∷ []))) (drop (i + 1) t ++ more)
-  lines_on h e = at_drop_more (λ (l : Text). lines_after n line (l ++ more)) t i 0 h ∙ cond-false _ _ _ (ne_eqb (get_or t i 0) 10 e)
-
-  pub lines_done : length t ≤ i → lines_after n line (drop i t ++ more) ≡ lines_after n line more
-  lines_done h = at_drop_all (λ (l : Text). lines_after n line (l ++ more)) t i h
-
--- a part of a piece: its length, and what is left of it after m bytes
-pub part_length : (piece : Text) (from to : ℕ) → from ≤ to → to ≤ length piece → length (part_of piece from to) ≡ to - from
-part_length piece from to h w = length-take-le (to - from) (drop from piece) (omega (arith, length-drop from piece))
-
-pub part_left : (piece : Text) (from to m : ℕ) → from + m ≤ to → part_of piece (from + m) to ≡ drop m (part_of piece from to)
-part_left piece from to m h =
-    let e : to - from ≡ m + (to - (from + m)) = omega arith in
-    ap (take (to - (from + m))) (sym (drop-drop m from piece)) ∙ sym (ap (λ (k : ℕ). drop m (take k (drop from piece))) e ∙ drop-take m (to - (from + m)) (drop from piece))
+pub kept_whole : (n : ℕ) (line : Text) → length line ≤ n → take n (line ++ []) ≡ line
+kept_whole n line h = rw append-nil (take_all n line h)
 
 -- a line that goes on with another piece
 pub begun_more : (n : ℕ) (unread more next line : Text) → line ≡ take n (unread ++ more) → take n (line ++ next) ≡ take n (unread ++ (more ++ next))
 begun_more n unread more next line e =
     ap (λ (l : Text). take n (l ++ next)) e ∙ take_front n (unread ++ more) next ∙ ap (take n) (append_assoc unread more next)
 
--- a text without byte 10 is all before its end
-to_end_by : (i b : ℕ) (bs : Text) (c : Bool) → (after_end (suc i) bs ≡ None → to_end bs ≡ bs) → cond c (Some (suc i)) (after_end (suc i) bs) ≡ None → cond c [] (b ∷ to_end bs) ≡ b ∷ bs
-to_end_by i b bs true f h = let z : ◌≡◌ {A = ℕ} 0 1 = cc in absurd (omega arith)
-to_end_by i b bs false f h = ap (λ (l : Text). b ∷ l) (f h)
+-- the place after the first byte 10 is one after its place
+after_by : (i : ℕ) (c : Bool) (o : Option ℕ) → cond c (Some (suc i)) (option_map suc o) ≡ option_map suc (cond c (Some i) o)
+after_by i true o = refl
+after_by i false o = refl
 
-to_end_whole : (i : ℕ) (t : Text) → after_end i t ≡ None → to_end t ≡ t
-to_end_whole i [] e = refl
-to_end_whole i (b ∷ bs) e = to_end_by i b bs (eqb b 10) (to_end_whole (suc i) bs) e
+after_from : (i : ℕ) (t : Text) → after_end i t ≡ option_map suc (position_from (λ b. b == 10) i t)
+after_from i [] = refl
+after_from i (b ∷ bs) = rw (after_from (suc i) bs) (rw add-one (after_by i (b == 10) _))
+
+place_suc : (i : ℕ) (t : Text) → position_from (λ b. b == 10) (suc i) t ≡ option_map suc (position_from (λ b. b == 10) i t)
+place_suc i [] = refl
+place_suc i (b ∷ bs) = rw (add-one, add-one) (rw (place_suc (suc i) bs) (after_by i (b == 10) _))
+
+-- a line that goes on with a text up to its first byte 10, by that byte's place
+abbrev Fills : ℕ → Text → Text → Option ℕ → Type 0
+Fills n line t o =
+    MatchOption o ((to_end t ≡ t) × Cuts n line t None (take n (line ++ t)))
+    (λ at. (to_end t ≡ take at t) × Cuts n line t (Some (suc at)) (take n (line ++ take at t)))
+
+module _ (n b : ℕ) (line bs : Text) (other : (b == 10) ≡ false) where
+  longer : (more : Text) → take n (take n (line ++ (b ∷ [])) ++ more) ≡ take n (line ++ (b ∷ more))
+  longer more = take_front n (line ++ (b ∷ [])) more ∙ ap (take n) (append_assoc line (b ∷ []) more)
+
+  fills_more : (o : Option ℕ) → Fills n (take n (line ++ (b ∷ []))) bs o → Fills n line (b ∷ bs) (option_map suc o)
+  fills_more None f =
+      (cond-false _ _ _ other ∙ ap (λ (l : Text). b ∷ l) f.0, λ more. cond-false _ _ _ other ∙ f.1 more ∙ ap (λ (l : Text). lines_after n l more) (longer bs))
+  fills_more (Some at) f =
+      (cond-false _ _ _ other ∙ ap (λ (l : Text). b ∷ l) f.0, λ more. cond-false _ _ _ other ∙ f.1 more ∙ ap (λ (l : Text). l ∷ lines_after n [] (drop (suc at) bs ++ more)) (longer (take at bs)))
+
+fills_by : (n b : ℕ) (line bs : Text) (c : Bool) → (b == 10) ≡ c → length line ≤ n → Fills n (take n (line ++ (b ∷ []))) bs (position_from (λ x. x == 10) 0 bs) →
+    Fills n line (b ∷ bs) (cond c (Some 0) (position_from (λ x. x == 10) 1 bs))
+fills_by n b line bs true e h f =
+    (cond-true _ _ _ e, λ more. cond-true _ _ _ e ∙ ap (λ (l : Text). l ∷ lines_after n [] (bs ++ more)) (sym (kept_whole n line h)))
+fills_by n b line bs false e h f = rw (place_suc 0 bs) (fills_more n b line bs e _ f)
+
+fills_from : (n : ℕ) (line t : Text) → length line ≤ n → Fills n line t (position_from (λ b. b == 10) 0 t)
+fills_from n line [] h = (refl, λ more. ap (λ (l : Text). lines_after n l more) (sym (kept_whole n line h)))
+fills_from n line (b ∷ bs) h = fills_by n b line bs (b == 10) refl h (fills_from n (take n (line ++ (b ∷ []))) bs (omega (arith, length-take n (line ++ (b ∷ [])))))
+
+-- what filling comes to, where the place of the first byte 10 is known
+pub record Filled (n : ℕ) (line t : Text) (o : Option ℕ) (line' : Text) : Type 0 where
+  pub done : o ≡ after_end 0 t
+  pub cuts : Cuts n line t o line'
+  pub kept : line' ≡ take n (line ++ to_end t)
+
+module _ (n : ℕ) (line line' t : Text) (h : length line ≤ n) where
+  placed : (o : Option ℕ) → position (λ b. b == 10) t ≡ o → (after_end 0 t ≡ option_map suc o) × Fills n line t o
+  placed o e =
+      let p = sym (position_from-zero (λ (b : ℕ). b == 10) t) ∙ e in
+      (after_from 0 t ∙ ap (option_map suc) p, subst (Fills n line t) p (fills_from n line t h))
+
+  pub filled_none : position (λ b. b == 10) t ≡ None → line' ≡ take n (line ++ t) → Filled n line t None line'
+  filled_none e k =
+      let p = placed None e in
+      record { done = sym p.0; cuts = rw k p.1.1; kept = rw p.1.0 k }
+
+  pub filled_some : (at : ℕ) → position (λ b. b == 10) t ≡ Some at → line' ≡ take n (line ++ take at t) → Filled n line t (Some (at + 1)) line'
+  filled_some at e k =
+      let p = placed (Some at) e in
+      record { done = rw add-one (sym p.0); cuts = rw (k, add-one) p.1.1; kept = rw p.1.0 k }
+
+-- a text without byte 10 is all before its end
+whole_by : (t : Text) (o : Option ℕ) → option_map suc o ≡ None → Fills 0 [] t o → to_end t ≡ t
+whole_by t None e f = f.0
+whole_by t (Some at) e f = cc
 
 none_from : {X : Type 0} (o : Option X) → is_some o ≡ false → o ≡ None
 none_from None e = refl
-none_from (Some x) e = absurd (both_ways true e refl)
+none_from (Some x) e = cc
+
+-- a line begins with what was unread, where that has no end
+pub begun_first : (n : ℕ) (unread cleared line : Text) → is_some (after_end 0 unread) ≡ false → cleared ≡ [] → line ≡ take n (cleared ++ to_end unread) →
+    (after_end 0 unread ≡ None) × (more : Text) × (line ≡ take n (unread ++ more))
+begun_first n unread cleared line none c e =
+    let o = none_from (after_end 0 unread) none in
+    let w = whole_by unread _ (sym (after_from 0 unread) ∙ o) (fills_from 0 [] unread zero-le) in
+    (o, [], e ∙ rw (c, w, append-nil) refl)
+
+-- an empty line is none
+pub none_left : (empty : Bool) (line : Text) → empty ≡ (length line == 0) → not empty ≡ false → line ≡ []
+none_left empty line e h = nil_from_length line (eqb-true (length line) 0 (sym e ∙ not-false empty h))
 
 -- what was unread has no end, and the line that it began goes on
-pub begun : (n : ℕ) (unread first line more : Text) (some : Bool) (left : Text) → is_some (after_end 0 unread) ≡ false →
-    first ≡ take n ([] ++ to_end unread) → line ≡ take n (first ++ more) → (some ≡ false → line ≡ []) → Next n unread some line left
-begun n unread first line more some left none f l told =
-    let e = none_from (after_end 0 unread) none in
-    let u : first ≡ take n unread = f ∙ ap (take n) (to_end_whole 0 unread e) in
-    subst (λ (o : Option ℕ). NextBy o n unread some line left) (sym e)
-    (record { told = told; more = more; begins = l ∙ ap (λ (k : Text). take n (k ++ more)) u ∙ take_front n unread more })
+pub begun : (n : ℕ) (unread : Text) (some : Bool) (line left : Text) → after_end 0 unread ≡ None → Begun n unread some line → Next n unread some line left
+begun n unread some line left none b = subst (λ (o : Option ℕ). NextBy o n unread some line left) (sym none) b
+
+-- what is left of a part of a text after its first n bytes
+pub part_left : (xs : Text) (from to n : ℕ) → from + n ≤ to → slice_range xs (from + n) to ≡ drop n (slice_range xs from to)
+part_left xs from to n h =
+    let e : to - from ≡ n + (to - (from + n)) = omega arith in
+    ap (take (to - (from + n))) (sym (drop-drop n from xs)) ∙ sym (ap (λ (k : ℕ). drop n (take k (drop from xs))) e ∙ drop-take n (to - (from + n)) (drop from xs))
+
+-- what is shown of a line that was read
+module _ {E : Type 0} (n : ℕ) (unread left : Text) {r : Result (Option (Bor Text)) E} {o : Option (Bor Text)} (is : r ≡ Ok o) (h : IfOk r (λ line. Next n unread (is_some line) (shown line) left)) where
+  shown_by : (p : Option (Bor Text)) → o ≡ p → Next n unread (is_some p) (shown p) left
+  shown_by p e = subst (λ (q : Option (Bor Text)). Next n unread (is_some q) (shown q) left) e (IfOk-at_ok (λ line. Next n unread (is_some line) (shown line) left) is h)
+
+  pub shown_some : {line : Bor Text} → o ≡ Some line → Next n unread true line.now left
+  shown_some {line} e = shown_by (Some line) e
+
+  pub shown_none : o ≡ None → Next n unread false [] left
+  shown_none e = shown_by None e
+
+pub on_ok : {X E : Type 0} (r : Result X E) (P : Type 0) → P → OnOk r P
+on_ok (Ok x) P p = p
+on_ok (Err e) P p = tt

@@ -1,3 +1,4 @@
-pub mod Kept
 pub mod Cuts
 pub mod Readers
+pub mod Shown
+pub mod Answered

@@ -1,20 +1,15 @@
 -- What a reader of lines holds, and what reading the next line does.
-use Rattle.std.specs.Prelude.{◌≡◌, ℕ, ◌-◌, Bool, true, false, [], ◌++◌, take, drop, Some, None, Option}
+use Rattle.std.specs.Prelude.{◌≡◌, ℕ, Bool, true, false, [], ◌++◌, take, drop, Some, None, Option}
 use Rattle.rulebook.specs.Texts.{Text}
 use Rattle.rulebook.specs.Lines.{after_end, to_end}
-use Rattle.feed.specs.Kept.{kept}
 use Rattle.feed.specs.declared.lines.LineReader.{LineReader}
 
 abbrev pub line_of : {n : ℕ} → LineReader n → Text
-line_of r = kept r.line
-
--- the bytes from one place of a piece to another
-abbrev pub part_of : Text → ℕ → ℕ → Text
-part_of piece from to = take (to - from) (drop from piece)
+line_of r = r.line.items
 
 -- what is read and not yet cut
 abbrev pub unread_text : {n : ℕ} → LineReader n → Text
-unread_text r = part_of r.piece r.from r.to
+unread_text r = r.unread
 
 -- what is left of a text after so many bytes, and nothing where it is used up
 abbrev pub left_of : Option ℕ → Text → Text

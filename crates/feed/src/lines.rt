@@ -1,19 +1,87 @@
 // Reads an input line by line.
-ghost use Rattle.std.specs.Prelude.{◌≡◌, ◌≤◌, length};
+ghost use Rattle.std.specs.Prelude.{◌≡◌, ◌==◌, [], ◌++◌, length, take, is_some, IfOk};
+ghost use Rattle.feed.specs.Readers.{Next, left_of, line_of, unread_text};
+ghost use Rattle.rulebook.specs.Lines.{after_end, to_end};
 
-use super::LineBuffer;
+use crate::cutting::fill;
+use crate::unread::Unread;
+use arrayvec::ArrayVec;
+use std::io;
+use std::io::Read;
 
-pub mod reading;
-
-// Reads lines, of each of which it keeps the first N bytes. What lies from `from` to `to` of
-// the piece is read and not yet cut.
+// Reads lines, of each of which it keeps the first N bytes.
 #[derive(Drop)]
 pub struct LineReader<const N: usize> {
-    line: LineBuffer<N>,
-    piece: [u8; 4096],
-    from: usize,
-    to: usize,
-    ghost forward: { from ≤ to },
-    ghost within: { to ≤ 4096 },
-    ghost long: { length piece ≡ 4096 },
+    line: ArrayVec<u8, N>,
+    unread: Unread,
+}
+
+impl<const N: usize> LineReader<N> {
+    ghost use Rattle.std.specs.Borrow.{sem};
+    ghost use Rattle.feed.specs.Shown.{ShowsNext};
+
+    pub fn new() -> LineReader<N>
+        ensures line { line_of result ≡ [] }
+        ensures unread { unread_text result ≡ [] }
+    {
+        LineReader {
+            line: ArrayVec::new(),
+            unread: Unread::new(),
+        }
+    }
+
+    // Whether the next line may have to be waited for.
+    pub fn is_drained(&self) -> bool
+        ensures { result ≡ (length (unread_text self.now) == 0) }
+    {
+        self.unread.is_empty()
+    }
+
+    // Goes on with the line from what is unread, up to its first byte 10, and tells whether there is one.
+    fn cut(&mut self) -> bool
+        ensures told { result ≡ is_some (after_end 0 (unread_text self.old)) }
+        ensures line { line_of self.new ≡ take N (line_of self.old ++ to_end (unread_text self.old)) }
+        ensures left { unread_text self.new ≡ left_of (after_end 0 (unread_text self.old)) (unread_text self.old) }
+    {
+        match fill(&mut self.line, self.unread.as_slice()) {
+            Some(done) => {
+                self.unread.consume(done);
+                true
+            }
+            None => {
+                self.unread.clear();
+                false
+            }
+        }
+    }
+
+    // Reads on to the end of the next line, and tells whether there is one.
+    fn read_on<R: Read>(&mut self, input: &mut R) -> io::Result<bool>
+        ensures { IfOk result (λ some. Next N (unread_text self.old) some (line_of self.new) (unread_text self.new)) }
+    {
+        self.line.clear();
+        if self.cut() {
+            return Ok(true);
+        }
+        for _ in 0..u64::MAX {
+            if !self.unread.refill(input)? {
+                return Ok(!self.line.is_empty());
+            }
+            if self.cut() {
+                break;
+            }
+        }
+        Ok(true)
+    }
+    // Reads the next line of the input, as far as it is kept; none where it has none. The line begins
+    // with what is unread, and no more of the input is read where it ends in that.
+    pub fn next_line<R: Read>(&mut self, input: &mut R) -> io::Result<Option<&[u8]>>
+        ensures* next { sem 𝓛 (ShowsNext N.row N self.entry result) }
+    {
+        if self.read_on(input)? {
+            Ok(Some(self.line.as_slice()))
+        } else {
+            Ok(None)
+        }
+    }
 }

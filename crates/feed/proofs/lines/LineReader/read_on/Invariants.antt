@@ -1,0 +1,10 @@
+use Rattle.std.proofs.Common.{◌≡◌, ◌++◌, take, None}
+use Rattle.rulebook.specs.Texts.{Text}
+use Rattle.rulebook.specs.Lines.{after_end}
+use Rattle.feed.specs.Readers.{line_of, unread_text}
+use Rattle.feed.proofs.lines.LineReader.read_on.Given as goal
+
+-- the line goes on from what was unread, which has no end
+abbrev pub invariant-loop : goal.invariant-loop
+invariant-loop g l =
+    let u = unread_text l.fn.self in (after_end 0 u ≡ None) × (more : Text) × (line_of l.self ≡ take g.row.N (u ++ more))
