@@ -49,6 +49,8 @@ fn write_uncompleted<W: Write>(out: &mut W, refusal: &Refusal) -> io::Result<()>
     }
 }
 
+// Kept: a Display of Verdict is no plainer. A code's and an office's text are bytes, and Display
+// writes str: `for byte in code.text() { f.write_char(char::from(*byte))?; }`.
 fn write_verdict<W: Write>(out: &mut W, verdict: &Verdict) -> io::Result<()> {
     match verdict {
         Verdict::Sound(code) => write_sound(out, code),

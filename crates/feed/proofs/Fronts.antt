@@ -6,11 +6,7 @@ use Rattle.std.specs.List.{position_from}
 use Rattle.std.proofs.lemmas.List.{take_all, append-nil, nil_from_length, length-take, drop-drop, drop-take}
 use Rattle.std.proofs.lemmas.Iterator.Adapters.{position_from-zero}
 use Rattle.std.proofs.lemmas.Bool.{eqb-true, not-false, cond-true, cond-false}
-use Rattle.std.specs.Prelude.{Result, Ok, Err, IfOk, OnOk}
-use Rattle.std.specs.Borrow.{Bor}
-use Rattle.std.proofs.lemmas.Result.{IfOk-at_ok}
 use Rattle.rulebook.specs.Texts.{Text}
-use Rattle.feed.specs.Shown.{shown}
 use Rattle.feed.specs.Cuts.{Cuts}
 use Rattle.feed.specs.Readers.{Begun, Next, NextBy}
 use Rattle.rulebook.specs.Lines.{to_end, after_end, lines_after}
@@ -121,18 +117,3 @@ pub part_left : (xs : Text) (from to n : ℕ) → from + n ≤ to → slice_rang
 part_left xs from to n h =
     let e : to - from ≡ n + (to - (from + n)) = omega arith in
     ap (take (to - (from + n))) (sym (drop-drop n from xs)) ∙ sym (ap (λ (k : ℕ). drop n (take k (drop from xs))) e ∙ drop-take n (to - (from + n)) (drop from xs))
-
--- what is shown of a line that was read
-module _ {E : Type 0} (n : ℕ) (unread left : Text) {r : Result (Option (Bor Text)) E} {o : Option (Bor Text)} (is : r ≡ Ok o) (h : IfOk r (λ line. Next n unread (is_some line) (shown line) left)) where
-  shown_by : (p : Option (Bor Text)) → o ≡ p → Next n unread (is_some p) (shown p) left
-  shown_by p e = subst (λ (q : Option (Bor Text)). Next n unread (is_some q) (shown q) left) e (IfOk-at_ok (λ line. Next n unread (is_some line) (shown line) left) is h)
-
-  pub shown_some : {line : Bor Text} → o ≡ Some line → Next n unread true line.now left
-  shown_some {line} e = shown_by (Some line) e
-
-  pub shown_none : o ≡ None → Next n unread false [] left
-  shown_none e = shown_by None e
-
-pub on_ok : {X E : Type 0} (r : Result X E) (P : Type 0) → P → OnOk r P
-on_ok (Ok x) P p = p
-on_ok (Err e) P p = tt

@@ -1,1 +1,3 @@
 mod Fronts
+mod Known
+mod Shows

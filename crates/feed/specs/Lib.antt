@@ -1,4 +1,5 @@
 pub mod Cuts
 pub mod Readers
+pub mod Known
 pub mod Shown
 pub mod Answered

@@ -4,6 +4,7 @@ use Rattle.std.specs.Borrow.{Fml, RattleType, Bor, MutBor}
 use Rattle.std.specs.Io.BufRead.{Rests}
 use Rattle.rulebook.specs.Texts.{Text}
 use Rattle.feed.specs.Readers.{Next, unread_text}
+use Rattle.feed.specs.Known.{Reads}
 use Rattle.feed.specs.contracts.lines.LineReader.{the_row}
 
 -- the text that is shown, and the empty one where there is none
@@ -12,6 +13,8 @@ shown None = []
 shown (Some line) = line.now
 
 -- what is shown is the next line, and the reader holds what it leaves once the line is no longer borrowed
-abbrev pub ShowsNext : {E : Type 0} → (N : RattleType) (n : ℕ) → MutBor (the_row N).Denot → Result (Option (Bor Text)) E → Fml
-ShowsNext N n reader result =
-    Rests (the_row N) reader (λ new. IfOk result (λ line. Next n (unread_text reader.now) (is_some line) (shown line) (unread_text new)))
+abbrev pub ShowsNext : {E : Type 0} → (N : RattleType) (n : ℕ) → MutBor (the_row N).Denot → Option Text → Option Text → Result (Option (Bor Text)) E → Fml
+ShowsNext N n reader input rest result =
+    Rests (the_row N) reader (λ new. IfOk result (λ line.
+    Next n (unread_text reader.now) (is_some line) (shown line) (unread_text new)
+    × Reads n (unread_text reader.now) input (is_some line) (shown line) (unread_text new) rest))

@@ -1,6 +1,7 @@
 // Answers an input line by line.
 ghost use Rattle.std.specs.Prelude.{⊤, List, ℕ, OnOk};
 ghost use Rattle.feed.specs.Answered.{Answered};
+ghost use Rattle.feed.specs.Known.{AreLines};
 ghost use Rattle.feed.specs.Readers.{unread_text};
 ghost use Rattle.rulebook.specs.Texts.{Text};
 
@@ -8,10 +9,11 @@ use crate::lines::LineReader;
 use std::io;
 use std::io::{Read, Write};
 
-// One who answers lines. A trait, since a call that is handed a closure would have to ask that it
-// may be called.
+// One who answers lines.
+// Kept: a trait and no closure, since no public call may ask anything of its caller, and one that is
+// handed a closure asks that it may be called: `requires { F.IsAlwaysCallable answer }`.
 pub trait Answerer {
-    // What the answer to a line, which has this number, makes of the one who answers.
+    // How one who answers the line with this number may be changed by that.
     ghost answers: { Self → ℕ → List ℕ → Self → Type 0 } = { λ _ _ _ _. ⊤ };
 
     fn answer<W: Write>(&mut self, out: &mut W, number: u64, line: &[u8]) -> io::Result<()>
@@ -28,7 +30,8 @@ impl<const N: usize> LineReader<N> {
         answerer: &mut A,
     ) -> io::Result<()>
         ensures { OnOk result ((lines : List Text)
-            × Answered A.answers N 1 lines (unread_text self.old) answerer.old (unread_text self.new) answerer.new) }
+            × Answered A.answers N 1 lines (unread_text self.old) answerer.old (unread_text self.new) answerer.new
+            × AreLines N (unread_text self.old) (R.remaining input.old) lines) }
     {
         for number in 1..=u64::MAX {
             if self.is_drained() {

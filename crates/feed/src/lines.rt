@@ -1,5 +1,7 @@
 // Reads an input line by line.
 ghost use Rattle.std.specs.Prelude.{◌≡◌, ◌==◌, [], ◌++◌, length, take, is_some, IfOk};
+ghost use Rattle.feed.specs.Cuts.{Cuts};
+ghost use Rattle.feed.specs.Known.{Reads};
 ghost use Rattle.feed.specs.Readers.{Next, left_of, line_of, unread_text};
 ghost use Rattle.rulebook.specs.Lines.{after_end, to_end};
 
@@ -42,6 +44,7 @@ impl<const N: usize> LineReader<N> {
         ensures told { result ≡ is_some (after_end 0 (unread_text self.old)) }
         ensures line { line_of self.new ≡ take N (line_of self.old ++ to_end (unread_text self.old)) }
         ensures left { unread_text self.new ≡ left_of (after_end 0 (unread_text self.old)) (unread_text self.old) }
+        ensures cuts { Cuts N (line_of self.old) (unread_text self.old) (after_end 0 (unread_text self.old)) (line_of self.new) }
     {
         match fill(&mut self.line, self.unread.as_slice()) {
             Some(done) => {
@@ -56,15 +59,19 @@ impl<const N: usize> LineReader<N> {
     }
 
     // Reads on to the end of the next line, and tells whether there is one.
+    // Kept: a flag, since the line itself, `Option<&[u8]>`, would lend the reader to the loop that
+    // still fills it; `next_line` gives the Option.
     fn read_on<R: Read>(&mut self, input: &mut R) -> io::Result<bool>
-        ensures { IfOk result (λ some. Next N (unread_text self.old) some (line_of self.new) (unread_text self.new)) }
+        ensures next { IfOk result (λ some. Next N (unread_text self.old) some (line_of self.new) (unread_text self.new)) }
+        ensures lines { IfOk result (λ some. Reads N (unread_text self.old) (R.remaining input.old) some (line_of self.new)
+            (unread_text self.new) (R.remaining input.new)) }
     {
         self.line.clear();
         if self.cut() {
             return Ok(true);
         }
         for _ in 0..u64::MAX {
-            if !self.unread.refill(input)? {
+            if self.unread.refill(input)? == 0 {
                 return Ok(!self.line.is_empty());
             }
             if self.cut() {
@@ -73,10 +80,11 @@ impl<const N: usize> LineReader<N> {
         }
         Ok(true)
     }
+
     // Reads the next line of the input, as far as it is kept; none where it has none. The line begins
     // with what is unread, and no more of the input is read where it ends in that.
     pub fn next_line<R: Read>(&mut self, input: &mut R) -> io::Result<Option<&[u8]>>
-        ensures* next { sem 𝓛 (ShowsNext N.row N self.entry result) }
+        ensures* next { sem 𝓛 (ShowsNext N.row N self.entry (R.remaining input.old) (R.remaining input.new) result) }
     {
         if self.read_on(input)? {
             Ok(Some(self.line.as_slice()))

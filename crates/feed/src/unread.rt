@@ -1,11 +1,15 @@
 // What is read of an input and not yet cut into lines.
-ghost use Rattle.std.specs.Prelude.{◌≡◌, ◌<◌, ◌≤◌, ◌==◌, [], length, drop, IfOk, nat_lt};
+ghost use Rattle.std.specs.Prelude.{◌≡◌, ◌≤◌, ◌==◌, [], length, drop, IfOk, OnOk};
+ghost use Rattle.std.specs.Io.KnownBytes.{Consumes, IsAtEnd};
 
 use std::io;
 use std::io::Read;
 use std::marker::Model;
 
 // What lies from `from` to `to` of the bytes.
+// Kept: std's BufReader takes its memory from the heap, so that a reader could not be made without
+// failing; here the memory is fixed. And a Range for `from` and `to` is no plainer, since it is not
+// copied: `&self.bytes[self.part.start..self.part.end]`.
 #[derive(Drop)]
 pub(crate) struct Unread {
     bytes: [u8; 4096],
@@ -59,12 +63,14 @@ impl Unread {
         self.from = self.to;
     }
 
-    // Reads once, and tells whether anything came.
-    pub(crate) fn refill<R: Read>(&mut self, input: &mut R) -> io::Result<bool>
-        ensures { IfOk result (λ some. some ≡ nat_lt 0 (length self.new)) }
+    // Reads once, and tells how many bytes came.
+    pub(crate) fn refill<R: Read>(&mut self, input: &mut R) -> io::Result<usize>
+        ensures count { IfOk result (λ n. n ≡ length self.new) }
+        ensures bytes { OnOk result (Consumes (R.remaining input.old) (R.remaining input.new) self.new) }
+        ensures end { IfOk result (λ n. n ≡ 0 → IsAtEnd (R.remaining input.new)) }
     {
         self.from = 0;
         self.to = input.read(&mut self.bytes)?;
-        Ok(self.to > 0)
+        Ok(self.to)
     }
 }

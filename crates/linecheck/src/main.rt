@@ -21,6 +21,8 @@ fn write_dated<W: Write>(out: &mut W, action: &str, dated: &Dated) -> io::Result
     out.write_all(&day)
 }
 
+// Kept: no Display, since Command is another crate's, and the text of a code and of a date is bytes:
+// `for byte in code.text() { f.write_char(char::from(*byte))?; }`.
 fn write_command<W: Write>(out: &mut W, command: &Command) -> io::Result<()> {
     match command {
         Command::Create(dated, _) => write_dated(out, "create", dated),
@@ -34,10 +36,12 @@ fn write_command<W: Write>(out: &mut W, command: &Command) -> io::Result<()> {
     }
 }
 
+// Kept: the answer line is written into a buffer of the caller's, whose length the call tells, since
+// the office's answers use no heap.
 fn write_answer<W: Write>(out: &mut W, refusal: &Refusal) -> io::Result<()> {
     let mut buffer = [0; 200];
     let n = write_refusal(refusal, &mut buffer);
-    out.write_all(&buffer[0..n])
+    out.write_all(&buffer[..n])
 }
 
 // Checks each line for an office.
