@@ -8,16 +8,16 @@ use Rattle.rulebook.specs.Schemes.{Scheme, is_right}
 use Rattle.rulebook.specs.Codes.{eic, is_digit, is_capital, is_minus, is_type, lawful_at}
 use Rattle.rulebook.specs.Articles.{ean13}
 use Rattle.rulebook.specs.Dates.{written_day}
-use Rattle.rulebook.specs.Fields.{all_of, up_to, is_name_byte, is_display_byte, is_vat_byte}
+use Rattle.rulebook.specs.Fields.{all_of, up_to, is_name_byte, is_display_byte, is_vat_byte, is_vat}
 use Rattle.rulebook.specs.Records.{status_text, texts}
 use Rattle.rulebook.specs.Answers.{tails, granted_fields}
 use Rattle.rulebook.proofs.Rights.{right_parts, lawful_at_lem}
 use Rattle.fields.proofs.Decimals.{by_digits}
 use Rattle.eic.specs.Views.{code_text}
 use Rattle.eic.specs.declared.codes.Code.{Code}
-use Rattle.fields.specs.Views.{name_text, display_text, vat_text, ean_text, text_or}
+use Rattle.fields.specs.Texts.{text_or}
+use Rattle.fields.specs.Views.{name_text, display_text, vat_text, ean_text}
 use Rattle.fields.specs.declared.articles.Ean.{Ean}
-use Rattle.fields.specs.declared.names.Vat.{Vat}
 use Rattle.records.specs.Views.{entry_of, registration_texts}
 use Rattle.records.specs.declared.Record.{Record}
 use Rattle.records.specs.declared.Registration.{Registration}
@@ -84,10 +84,8 @@ plain_status false = search rules
 plain_code : (c : Code) → Plain (code_text c)
 plain_code c = plain_right eic no_comma_eic c.bytes c.sound
 
-plain_vat : (v : Vat) → Plain (vat_text v)
-plain_vat v =
-    let t = vat_text v in
-    plain_up_to is_vat_byte refl 14 t (and_parts (up_to 14 is_vat_byte t) _ (and_parts (leb 3 (length t)) _ v.lawful).1).0
+plain_vat : (t : Text) → is_vat t ≡ true → Plain t
+plain_vat t e = plain_up_to is_vat_byte refl 14 t (and_parts (up_to 14 is_vat_byte t) _ (and_parts (leb 3 (length t)) _ e).1).0
 
 plain_ean : (e : Ean) → Plain (ean_text e)
 plain_ean e = plain_right ean13 no_comma_ean e.digits e.right
@@ -105,7 +103,7 @@ plain_registration g =
     let display = plain_up_to is_display_byte refl 16 (display_text g.display) g.display.lawful in
     let parent = holds_or Plain code_text tt plain_code g.parent in
     let responsible = holds_or Plain code_text tt plain_code g.responsible in
-    let vat = holds_or Plain vat_text tt plain_vat g.vat in
+    let vat = holds_or Plain vat_text tt (λ v. plain_vat (vat_text v) v.lawful) g.vat in
     let ean = holds_or Plain ean_text tt plain_ean g.ean in
     (object, (function, (name, (display, (parent, (responsible, (vat, (ean, tt))))))))
 

@@ -18,10 +18,10 @@ use stores::store::Store;
 pub(crate) fn check_holder(new: &Registration, kept: &Registration) -> Result<(), Refusal>
     ensures { refusal_in result ≡ other_holder (registration_texts new.now) (registration_texts kept.now) }
 {
-    if !new.object.is_same(&kept.object) {
+    if new.object != kept.object {
         return Err(in_field(Ground::OtherHolder, 4));
     }
-    if !new.function.is_same(&kept.function) {
+    if new.function != kept.function {
         return Err(in_field(Ground::OtherHolder, 5));
     }
     Ok(())

@@ -1,7 +1,11 @@
 -- A date, read and written again, and the parts of one that is written. Assumes nothing.
-use Rattle.std.proofs.Common.{◌≡◌, ℕ, ◌+◌, ◌-◌, ◌*◌, ◌/◌, ◌%◌, ◌≤◌, true, eqb, ltb, leb, List, [], ◌∷◌, length, get_or, Ok, sym, refl, ap, ◌∙◌, arith}
+use Rattle.std.proofs.Common.{◌≡◌, ℕ, ◌+◌, ◌-◌, ◌*◌, ◌/◌, ◌%◌, ◌<◌, ◌≤◌, true, eqb, ltb, leb, List, [], ◌∷◌, length, get_or, Ok, Some, sym, refl, ap, ◌∙◌, arith}
 use Rattle.std.proofs.lemmas.Bool.{eqb-true, and_parts, and_from, cond-true, leb-true}
 use Rattle.std.proofs.lemmas.Bool.Decides.{nat_tests}
+use Rattle.std.specs.Cmp.{ranks}
+use Rattle.std.specs.Ordering.{is_lt, is_some_and, partial_ordering_then, nat_cmp, MatchOrdering}
+use Rattle.std.specs.declared.cmp.Ordering.{Ordering}
+use Rattle.std.specs.declared.cmp.Ordering.TheVariants.{Less, Equal, Greater}
 use Rattle.rulebook.specs.Texts.{Text}
 use Rattle.rulebook.specs.Codes.{is_digit}
 use Rattle.rulebook.specs.Dates.{two_digits, number_at, is_date_form, year_of, month_of, day_of, is_day, is_date, month_days, read_date, written_day, day_key, is_earlier}
@@ -80,11 +84,24 @@ written_key y m d hy hm hd =
     let day : day_of (written_day y m d) ≡ d = omega arith in
     omega arith
 
-pub earlier_by_key : (y m d y' m' d' : ℕ) → y ≤ 9999 → m ≤ 99 → d ≤ 99 → y' ≤ 9999 → m' ≤ 99 → d' ≤ 99 →
-    ltb (day_key y m d) (day_key y' m' d') ≡ is_earlier (written_day y m d) (written_day y' m' d')
+-- days in the order of year, month and day are in the order of their keys
+by_parts : (y m d y' m' d' : ℕ) → m ≤ 99 → d ≤ 99 → m' ≤ 99 → d' ≤ 99 → (r s t : Ordering) →
+    MatchOrdering r (y < y') (y ≡ y') (y' < y) → MatchOrdering s (m < m') (m ≡ m') (m' < m) → MatchOrdering t (d < d') (d ≡ d') (d' < d) →
+    is_some_and is_lt (partial_ordering_then (Some r) (partial_ordering_then (Some s) (Some t))) ≡ ltb (day_key y m d) (day_key y' m' d')
+by_parts y m d y' m' d' hm hd hm' hd' Less s t p q k = grind (arith, nat_tests)
+by_parts y m d y' m' d' hm hd hm' hd' Greater s t p q k = grind (arith, nat_tests)
+by_parts y m d y' m' d' hm hd hm' hd' Equal Less t p q k = grind (arith, nat_tests)
+by_parts y m d y' m' d' hm hd hm' hd' Equal Greater t p q k = grind (arith, nat_tests)
+by_parts y m d y' m' d' hm hd hm' hd' Equal Equal Less p q k = grind (arith, nat_tests)
+by_parts y m d y' m' d' hm hd hm' hd' Equal Equal Equal p q k = grind (arith, nat_tests)
+by_parts y m d y' m' d' hm hd hm' hd' Equal Equal Greater p q k = grind (arith, nat_tests)
+
+pub earlier_by_parts : (y m d y' m' d' : ℕ) → y ≤ 9999 → m ≤ 99 → d ≤ 99 → y' ≤ 9999 → m' ≤ 99 → d' ≤ 99 →
+    is_some_and is_lt (partial_ordering_then (Some (nat_cmp y y')) (partial_ordering_then (Some (nat_cmp m m')) (Some (nat_cmp d d')))) ≡ is_earlier (written_day y m d) (written_day y' m' d')
 unfolding is_earlier
-earlier_by_key y m d y' m' d' hy hm hd hy' hm' hd' =
-    ap (λ (k : ℕ). ltb k (day_key y' m' d')) (sym (written_key y m d hy hm hd))
+earlier_by_parts y m d y' m' d' hy hm hd hy' hm' hd' =
+    by_parts y m d y' m' d' hm hd hm' hd' (nat_cmp y y') (nat_cmp m m') (nat_cmp d d') (ranks y y') (ranks m m') (ranks d d')
+    ∙ ap (λ (k : ℕ). ltb k (day_key y' m' d')) (sym (written_key y m d hy hm hd))
     ∙ ap (λ (k : ℕ). ltb (day_key (year_of (written_day y m d)) (month_of (written_day y m d)) (day_of (written_day y m d))) k) (sym (written_key y' m' d' hy' hm' hd'))
 
 pub few_days : (y m : ℕ) → month_days y m ≤ 31

@@ -1,4 +1,5 @@
-mod Bytes
+mod Passes
 mod Pads
 mod Days
+pub mod Same
 pub mod Decimals

@@ -1,4 +1,4 @@
-pub mod Classes
 pub mod Bounded
-pub mod Digits
+pub mod Fits
+pub mod Texts
 pub mod Views

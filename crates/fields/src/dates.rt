@@ -4,7 +4,7 @@ ghost use Rattle.rulebook.specs.Dates.{month_days};
 
 pub mod reading;
 
-#[derive(Clone, Copy, PartialEq, Eq, Debug)]
+#[derive(Clone, Copy, PartialEq, Eq, PartialOrd, Ord, Debug)]
 pub struct Date {
     year: u16,
     month: u8,

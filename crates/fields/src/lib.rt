@@ -4,7 +4,9 @@
 
 pub mod articles;
 mod bounded;
-mod classes;
+mod bytes;
 pub mod dates;
 pub mod names;
 pub mod numbers;
+pub mod parties;
+pub mod rules;

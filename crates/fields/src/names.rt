@@ -1,29 +1,39 @@
 // Names, display names and VAT numbers.
 ghost use Rattle.fields.specs.Bounded.{bounded_text};
-ghost use Rattle.rulebook.specs.Fields.{is_display, is_name, is_vat};
 ghost use Rattle.std.specs.Prelude.{◌≡◌, true};
 
 use super::bounded::Bounded;
+use super::rules::{DisplayRule, NameRule, Rule, VatRule};
+use std::alloc::AllocError;
+use std::marker::PhantomData;
 
 pub mod reading;
 
-// A name: 1 to 70 bytes from 32 to 126, no comma.
-#[derive(Clone, Copy)]
-pub struct Name {
-    kept: Bounded<70>,
-    ghost lawful: { is_name (bounded_text kept) ≡ true },
+// A text of at most N bytes, lawful by the rule R.
+#[derive_where(PartialEq, Eq)]
+pub struct Lawful<const N: usize, R: Rule<N>> {
+    kept: Bounded<N>,
+    rule: PhantomData<R>,
+    ghost lawful: { R.lawful (bounded_text kept) ≡ true },
 }
 
-// A display name: 1 to 16 of A to Z, 0 to 9, minus, plus, underscore.
-#[derive(Clone, Copy, PartialEq, Eq)]
-pub struct DisplayName {
-    kept: Bounded<16>,
-    ghost lawful: { is_display (bounded_text kept) ≡ true },
-}
+pub type Name = Lawful<70, NameRule>;
 
-// A VAT number: two capitals, then 1 to 12 capitals or digits.
-#[derive(Clone, Copy)]
-pub struct Vat {
-    kept: Bounded<14>,
-    ghost lawful: { is_vat (bounded_text kept) ≡ true },
+pub type DisplayName = Lawful<16, DisplayRule>;
+
+pub type Vat = Lawful<14, VatRule>;
+
+impl<const N: usize, R: Rule<N>> Copy for Lawful<N, R> {}
+
+impl<const N: usize, R: Rule<N>> Clone for Lawful<N, R> {
+    ghost is_clone = { λ x y. y ≡ x };
+
+    ghost is_infallible = { λ _. Unit {0} };
+
+    fn clone(&self) -> Result<Self, AllocError> {
+        Ok(Lawful {
+            kept: self.kept,
+            rule: PhantomData,
+        })
+    }
 }

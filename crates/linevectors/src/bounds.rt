@@ -3,7 +3,13 @@ use fields::articles::Ean;
 use fields::dates::Date;
 use fields::names::{DisplayName, Name, Vat};
 use fields::numbers::{Function, ObjectNumber};
+use fields::parties::PartyNumber;
+use grounds::Refusal;
 use std::test::Fail;
+
+fn reads<'a, T: TryFrom<&'a [u8], Error = Refusal> + Drop>(text: &'a [u8]) -> bool {
+    T::try_from(text).is_ok()
+}
 
 #[test]
 fn dates(rt: HostRuntime) {
@@ -16,7 +22,7 @@ fn dates(rt: HostRuntime) {
         b"2026-12-31",
         b"2026-02-28",
     ] {
-        assert!(rt; Date::read(text).is_ok());
+        assert!(rt; reads::<Date>(text));
     }
     for text in [
         b"1999-12-31",
@@ -33,10 +39,10 @@ fn dates(rt: HostRuntime) {
         b"2026-1-001",
         b" 026-01-01",
     ] {
-        assert!(rt; Date::read(text).is_err());
+        assert!(rt; !reads::<Date>(text));
     }
-    assert!(rt; Date::read(b"").is_err());
-    assert!(rt; Date::read(b"2026-01-011").is_err());
+    assert!(rt; !reads::<Date>(b""));
+    assert!(rt; !reads::<Date>(b"2026-01-011"));
 }
 
 // A day is before each later one, and not before itself.
@@ -53,10 +59,10 @@ fn order_of_days(rt: HostRuntime) -> Result<(), Fail> {
     ];
     for (i, a) in days.iter().enumerate() {
         for (j, b) in days.iter().enumerate() {
-            let Ok(first) = Date::read(*a) else {
+            let Ok(first) = Date::try_from(a.as_slice()) else {
                 return Err(Fail::new("a date"));
             };
-            let Ok(second) = Date::read(*b) else {
+            let Ok(second) = Date::try_from(b.as_slice()) else {
                 return Err(Fail::new("a date"));
             };
             assert_eq!(rt; first.is_before(&second), i < j);
@@ -67,38 +73,38 @@ fn order_of_days(rt: HostRuntime) -> Result<(), Fail> {
 
 #[test]
 fn numbers(rt: HostRuntime) {
-    assert!(rt; ObjectNumber::read(b"1").is_ok());
-    assert!(rt; ObjectNumber::read(b"9999999999").is_ok());
-    assert!(rt; ObjectNumber::read(b"10000000000").is_err());
-    assert!(rt; ObjectNumber::read(b"0").is_err());
-    assert!(rt; ObjectNumber::read(b"01").is_err());
-    assert!(rt; ObjectNumber::read(b"").is_err());
-    assert!(rt; ObjectNumber::read(b"1a").is_err());
-    assert!(rt; ObjectNumber::read(b"+1").is_err());
-    assert!(rt; Function::read(b"1").is_ok());
-    assert!(rt; Function::read(b"99").is_ok());
-    assert!(rt; Function::read(b"100").is_err());
-    assert!(rt; Function::read(b"0").is_err());
-    assert!(rt; Function::read(b"09").is_err());
+    assert!(rt; reads::<ObjectNumber>(b"1"));
+    assert!(rt; reads::<ObjectNumber>(b"9999999999"));
+    assert!(rt; !reads::<ObjectNumber>(b"10000000000"));
+    assert!(rt; !reads::<ObjectNumber>(b"0"));
+    assert!(rt; !reads::<ObjectNumber>(b"01"));
+    assert!(rt; !reads::<ObjectNumber>(b""));
+    assert!(rt; !reads::<ObjectNumber>(b"1a"));
+    assert!(rt; !reads::<ObjectNumber>(b"+1"));
+    assert!(rt; reads::<Function>(b"1"));
+    assert!(rt; reads::<Function>(b"99"));
+    assert!(rt; !reads::<Function>(b"100"));
+    assert!(rt; !reads::<Function>(b"0"));
+    assert!(rt; !reads::<Function>(b"09"));
 }
 
 #[test]
 fn names(rt: HostRuntime) {
     let long = [b'n'; 71];
-    assert!(rt; Name::read(b" ").is_ok());
-    assert!(rt; Name::read(b"a~").is_ok());
-    assert!(rt; Name::read(&long[0..70]).is_ok());
-    assert!(rt; Name::read(&long).is_err());
-    assert!(rt; Name::read(b"").is_err());
-    assert!(rt; Name::read(b"a,b").is_err());
-    assert!(rt; Name::read(b"\x1f").is_err());
-    assert!(rt; Name::read(b"\x7f").is_err());
-    assert!(rt; DisplayName::read(b"AZ09-+_").is_ok());
-    assert!(rt; DisplayName::read(b"ABCDEFGHIJKLMNOP").is_ok());
-    assert!(rt; DisplayName::read(b"ABCDEFGHIJKLMNOPQ").is_err());
-    assert!(rt; DisplayName::read(b"").is_err());
-    assert!(rt; DisplayName::read(b"a").is_err());
-    assert!(rt; DisplayName::read(b"A B").is_err());
+    assert!(rt; reads::<Name>(b" "));
+    assert!(rt; reads::<Name>(b"a~"));
+    assert!(rt; reads::<Name>(&long[0..70]));
+    assert!(rt; !reads::<Name>(&long));
+    assert!(rt; !reads::<Name>(b""));
+    assert!(rt; !reads::<Name>(b"a,b"));
+    assert!(rt; !reads::<Name>(b"\x1f"));
+    assert!(rt; !reads::<Name>(b"\x7f"));
+    assert!(rt; reads::<DisplayName>(b"AZ09-+_"));
+    assert!(rt; reads::<DisplayName>(b"ABCDEFGHIJKLMNOP"));
+    assert!(rt; !reads::<DisplayName>(b"ABCDEFGHIJKLMNOPQ"));
+    assert!(rt; !reads::<DisplayName>(b""));
+    assert!(rt; !reads::<DisplayName>(b"a"));
+    assert!(rt; !reads::<DisplayName>(b"A B"));
 }
 
 #[test]

@@ -70,16 +70,14 @@ impl Record {
     pub fn is_holder(&self, object: &ObjectNumber, function: &Function) -> bool
         ensures { result ≡ is_holder (object_text object.now) (function_text function.now) (entry_of self.now) }
     {
-        self.registration.object.is_same(object) && self.registration.function.is_same(function)
+        self.registration.object == *object && self.registration.function == *function
     }
 
     // Whether it has another code of the same type, and this display name.
     pub fn is_namesake(&self, code: &Code, display: &DisplayName) -> bool
         ensures { result ≡ is_namesake (code_text code.now) (display_text display.now) (entry_of self.now) }
     {
-        self.code.is_of_type(code)
-            && self.registration.display.is_same(display)
-            && !self.code.is_same(code)
+        self.code.is_of_type(code) && self.registration.display == *display && self.code != *code
     }
 
     // The record's sign: the display name itself if it is active, else the notice itself.

@@ -16,6 +16,7 @@ use fields::articles::Ean;
 use fields::dates::Date;
 use fields::names::{DisplayName, Name, Vat};
 use fields::numbers::{Function, ObjectNumber};
+use fields::parties::PartyNumber;
 use grounds::Refusal;
 use records::Registration;
 
@@ -58,7 +59,7 @@ fn read_named(office: &Office, text: &[u8]) -> Result<Option<Code>, Refusal>
 fn read_dated(office: &Office, texts: &DatedFields) -> Result<Dated, Refusal>
     ensures { (more : Text → Text → Result Order Refusal) → onward result (λ dated. more (date_text dated.date) (code_text dated.code)) ≡ read_dated (office_text office.now) texts.now.date.now texts.now.code.now more }
 {
-    let date = place(2, Date::read(texts.date))?;
+    let date = place(2, Date::try_from(texts.date))?;
     let code = place(3, Code::read_for(office, texts.code))?;
     Ok(Dated { date, code })
 }
@@ -71,10 +72,10 @@ fn read_registration(
     ensures { viewed registration_texts result ≡ read_registration (office_text office.now) (code_text code.now) (texts_in texts.now) }
 {
     let party = code.is_party();
-    let object = place(4, ObjectNumber::read(texts.object))?;
-    let function = place(5, Function::read(texts.function))?;
-    let name = place(6, Name::read(texts.name))?;
-    let display = place(7, DisplayName::read(texts.display))?;
+    let object = place(4, ObjectNumber::try_from(texts.object))?;
+    let function = place(5, Function::try_from(texts.function))?;
+    let name = place(6, Name::try_from(texts.name))?;
+    let display = place(7, DisplayName::try_from(texts.display))?;
     let parent = place(8, read_named(office, texts.parent))?;
     let responsible = place(9, read_named(office, texts.responsible))?;
     let vat = place(10, Vat::read(party, texts.vat))?;

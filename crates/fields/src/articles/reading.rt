@@ -1,29 +1,30 @@
 // Article numbers, read and given back.
+ghost use Rattle.fields.specs.Views.{ean_text};
+ghost use Rattle.rulebook.specs.Articles.{ean13};
+ghost use Rattle.rulebook.specs.Schemes.{is_right};
 ghost use Rattle.std.specs.Prelude.{◌≡◌, ◌≤◌, length};
-ghost use Rattle.fields.specs.Views.{ean_text, ean_text_or};
-ghost use Rattle.rulebook.specs.Fields.{read_ean};
-ghost use Rattle.rulebook.specs.Texts.{viewed};
 
+use super::super::parties::PartyNumber;
 use super::Ean;
 use eic::schemes::is_ean;
 use grounds::{Ground, Refusal};
 
-impl Ean {
-    // None for a blank; a number is lawful for a party alone.
-    pub fn read(party: bool, text: &[u8]) -> Result<Option<Ean>, Refusal>
-        ensures { viewed ean_text_or result ≡ read_ean party text.now }
-    {
-        if text.is_empty() {
-            return Ok(None);
-        }
-        if !party || !is_ean(text) {
-            return Err(Refusal::new(Ground::FieldRule, 0));
+impl PartyNumber for Ean {
+    ghost origin = { ean_text };
+
+    ghost lawful = { is_right ean13 };
+
+    fn of(text: &[u8]) -> Result<Ean, Refusal> {
+        if !is_ean(text) {
+            return Err(Ground::FieldRule.into());
         }
         let mut digits = [0; 13];
         digits.copy_from_slice(text);
-        Ok(Some(Ean { digits }))
+        Ok(Ean { digits })
     }
+}
 
+impl Ean {
     pub fn text(&self) -> &[u8]
         ensures is { result.now ≡ ean_text self.now }
         ensures short { length result.now ≤ 13 }

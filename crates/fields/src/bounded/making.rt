@@ -8,10 +8,8 @@ fn padded<const N: usize>(text: &[u8]) -> [u8; N]
     requires { length text.now ≤ N }
     ensures { result ≡ text.now ++ replicate (N - length text.now) 0 }
 {
-    let mut bytes = [0u8; N];
-    for (i, byte) in text.iter().enumerate() {
-        bytes[i] = *byte;
-    }
+    let mut bytes = [0; N];
+    bytes[..text.len()].copy_from_slice(text);
     bytes
 }
 
@@ -31,7 +29,6 @@ impl<const N: usize> Bounded<N> {
         ensures is { result.now ≡ bounded_text self.now }
         ensures short { length result.now ≤ N }
     {
-        let bytes = &self.bytes[..];
-        &bytes[0..self.len as usize]
+        &self.bytes[..self.len as usize]
     }
 }

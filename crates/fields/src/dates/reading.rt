@@ -1,7 +1,7 @@
 // Dates, read, given back and compared.
 ghost use Rattle.std.specs.Prelude.{◌≡◌, ◌+◌, ◌<◌, ◌≤◌, true, false, length, codes, MatchOption};
 ghost use Rattle.fields.specs.Views.{date_text};
-ghost use Rattle.rulebook.specs.Dates.{day_key, is_date_form, is_day, is_earlier, is_leap, month_days, number_at, read_date, two_digits, year_of};
+ghost use Rattle.rulebook.specs.Dates.{is_date_form, is_day, is_earlier, is_leap, month_days, number_at, read_date, two_digits, year_of};
 ghost use Rattle.rulebook.specs.Texts.{viewed};
 
 use super::Date;
@@ -78,24 +78,21 @@ fn digit(n: u16) -> u8
     b'0' + n as u8
 }
 
-impl Date {
-    pub fn read(text: &[u8]) -> Result<Date, Refusal>
-        ensures { viewed date_text result ≡ read_date text.now }
-    {
-        let Some(n) = read_written(text) else {
-            return Err(Refusal::new(Ground::Date, 0));
-        };
-        let real = is_day(n.year, n.month, n.day);
-        if !real {
-            return Err(Refusal::new(Ground::Date, 0));
-        }
-        Ok(Date {
-            year: n.year,
-            month: n.month,
-            day: n.day,
-        })
-    }
+impl TryFrom<&[u8]> for Date {
+    type Error = Refusal;
 
+    ghost try_from_gives = { λ text r. viewed date_text r ≡ read_date text.now };
+
+    fn try_from(text: &[u8]) -> Result<Date, Refusal> {
+        let Written { year, month, day } = read_written(text).ok_or(Ground::Date)?;
+        if !is_day(year, month, day) {
+            return Err(Ground::Date.into());
+        }
+        Ok(Date { year, month, day })
+    }
+}
+
+impl Date {
     // The first day that can be written.
     pub fn first() -> Date
         ensures { date_text result ≡ codes "2000-01-01" }
@@ -128,16 +125,10 @@ impl Date {
         ]
     }
 
-    fn key(&self) -> u32
-        ensures { result ≡ day_key self.now.year self.now.month self.now.day }
-    {
-        self.year as u32 * 10000 + (self.month as u32 * 100 + self.day as u32)
-    }
-
     // Whether its day lies before the other's.
     pub fn is_before(&self, other: &Date) -> bool
         ensures { result ≡ is_earlier (date_text self.now) (date_text other.now) }
     {
-        self.key() < other.key()
+        self < other
     }
 }

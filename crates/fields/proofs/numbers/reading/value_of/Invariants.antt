@@ -1,6 +1,6 @@
-use Rattle.std.proofs.Common.{◌≡◌, ◌^◌, ◌<◌, drop}
-use Rattle.fields.specs.Digits.{value_on}
+use Rattle.std.proofs.Common.{◌≡◌, take}
+use Rattle.std.specs.Str.Parse.{digits_value}
 use Rattle.fields.proofs.numbers.reading.value_of.Given as goal
 
-abbrev pub invariant-loop-i : goal.invariant-loop-i
-invariant-loop-i l = (value_on l.n (drop l.i l.digits) ≡ value_on 0 l.digits) × (l.n < 10 ^ l.i)
+abbrev pub invariant-loop-byte : goal.invariant-loop-byte
+invariant-loop-byte l = l.n ≡ digits_value 10 (take l.byte-index l.digits)
