@@ -6,6 +6,7 @@ ghost use Rattle.records.specs.Views.{entry_of};
 ghost use Rattle.rulebook.specs.Entries.{Apart, find, has_holder, has_namesake, nth};
 ghost use Rattle.rulebook.specs.Records.{Entry};
 ghost use Rattle.rulebook.specs.Stores.{Writes};
+ghost use Rattle.std.specs.Option.{option_map};
 ghost use Rattle.stores.specs.Reads.{Reads};
 
 use eic::codes::Code;
@@ -36,6 +37,18 @@ pub trait Store {
     // The record with this code.
     fn read(&self, code: &Code, into: &mut Record) -> bool
         ensures { Reads (find (code_text code.now) (entries self.now)) into.old result into.new };
+
+    // The record with this code, or none.
+    fn get(&self, code: &Code) -> Option<Record>
+        ensures { option_map entry_of result ≡ find (code_text code.now) (entries self.now) }
+    {
+        let mut into = Record::placeholder();
+        if self.read(code, &mut into) {
+            Some(into)
+        } else {
+            None
+        }
+    }
 
     // The k-th record, counted from 0.
     fn read_at(&self, k: usize, into: &mut Record) -> bool
