@@ -1,5 +1,5 @@
 -- The first records of a store, and one more, joined to those of another. Assumes nothing.
-use Rattle.std.proofs.Common.{◌≡◌, ℕ, ◌+◌, ◌-◌, ◌<◌, ◌≤◌, Bool, true, false, cond, ◌||◌, ltb, List, [], ◌∷◌, ◌++◌, length, get_or, take, is_some, Some, None, Option, unwrap_or, sym, refl, ap, ◌∙◌, subst, arith}
+use Rattle.std.proofs.Common.{◌≡◌, ℕ, ◌+◌, ◌-◌, ◌<◌, ◌≤◌, Bool, true, false, cond, ◌||◌, ltb, List, [], ◌∷◌, ◌++◌, length, get_or, take, is_some, Some, None, Option, Ok, Err, Result, unwrap_or, sym, refl, ap, ◌∙◌, subst, arith}
 use Rattle.std.specs.List.Sorted.{IsPermutation}
 use Rattle.std.proofs.lemmas.List.{get_or-take, length-take-le, take_more, nil_from_length}
 use Rattle.std.proofs.lemmas.List.Sorted.{IsPermutation-cons, IsPermutation-to_front, IsPermutation-trans}
@@ -7,21 +7,22 @@ use Rattle.std.proofs.lemmas.Bool.{lt-ltb, ltb-false}
 use Rattle.rulebook.specs.Records.{Entry}
 use Rattle.rulebook.specs.Entries.{find, is_held, nth, Apart, replacing}
 use Rattle.rulebook.specs.Stores.{Writes}
-use Rattle.rulebook.proofs.Entries.{none_some, find_some, find_shuffled, nth_some}
+use Rattle.rulebook.proofs.Entries.{find_some, find_shuffled, nth_some}
 use Rattle.records.specs.Views.{entry_of}
 use Rattle.records.specs.declared.Record.{Record}
 use Rattle.stores.specs.Copies.{unfit_for}
 use Rattle.stores.specs.Reads.{Reads}
+use Rattle.stores.specs.declared.copying.Unfit.{Unfit}
 use Rattle.stores.specs.declared.copying.Unfit.TheVariants.{HoldsRecords, LacksRoom}
 
 -- a store that takes the records es is empty and has room for them
 fit_by : (es ts : List Entry) (room : ℕ) (b f : Bool) → ltb 0 (length ts) ≡ b → ltb room (length es) ≡ f
-    → None ≡ cond b (Some HoldsRecords) (cond f (Some LacksRoom) None) → (ts ≡ []) × (length es ≤ room)
-fit_by es ts room true f t u e = absurd (none_some HoldsRecords e)
-fit_by es ts room false true t u e = absurd (none_some LacksRoom e)
+    → ◌≡◌ {A = Result (Unit {0}) Unfit} (Ok tt) (cond b (Err HoldsRecords) (cond f (Err LacksRoom) (Ok tt))) → (ts ≡ []) × (length es ≤ room)
+fit_by es ts room true f t u e = absurd (let z : ◌≡◌ {A = ℕ} 0 1 = cc in omega arith)
+fit_by es ts room false true t u e = absurd (let z : ◌≡◌ {A = ℕ} 0 1 = cc in omega arith)
 fit_by es ts room false false t u e = let z = ltb-false 0 (length ts) t in (nil_from_length ts (omega arith), ltb-false room (length es) u)
 
-pub fit : (es ts : List Entry) (room : ℕ) → None ≡ unfit_for es ts room → (ts ≡ []) × (length es ≤ room)
+pub fit : (es ts : List Entry) (room : ℕ) → ◌≡◌ {A = Result (Unit {0}) Unfit} (Ok tt) (unfit_for es ts room) → (ts ≡ []) × (length es ≤ room)
 fit es ts room e = fit_by es ts room (ltb 0 (length ts)) (ltb room (length es)) refl refl e
 
 -- the k-th code is not among the first k

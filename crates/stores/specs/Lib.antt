@@ -1,3 +1,4 @@
 pub mod Reads
 pub mod Rows
 pub mod Copies
+pub mod Tests

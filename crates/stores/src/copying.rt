@@ -1,5 +1,5 @@
 // Copies from store to store.
-ghost use Rattle.std.specs.Prelude.{◌≡◌, ◌-◌, length, None, ◌≢◌};
+ghost use Rattle.std.specs.Prelude.{◌≡◌, ◌-◌, true, false, length, is_ok};
 ghost use Rattle.std.specs.List.Sorted.{IsPermutation};
 ghost use Rattle.stores.specs.Copies.{unfit_for};
 
@@ -13,33 +13,32 @@ pub enum Unfit {
     LacksRoom,
 }
 
-// Why a store does not take the records of another, or none.
-fn reason<A: Store, B: Store>(from: &A, into: &B) -> Option<Unfit>
+// Whether a store takes the records of another.
+fn check_fit<A: Store, B: Store>(from: &A, into: &B) -> Result<(), Unfit>
     ensures { result ≡ unfit_for (A.Store.entries from.now) (B.Store.entries into.now) (B.Store.room into.now) }
 {
     if into.count() > 0 {
-        return Some(Unfit::HoldsRecords);
+        return Err(Unfit::HoldsRecords);
     }
     if into.room_left() < from.count() {
-        return Some(Unfit::LacksRoom);
+        return Err(Unfit::LacksRoom);
     }
-    None
+    Ok(())
 }
 
 // Copies all records into an empty store that has room for them; else tells why not, and nothing is written.
-pub fn copy_all<A: Store, B: Store>(from: &A, into: &mut B) -> Option<Unfit>
+pub fn copy_all<A: Store, B: Store>(from: &A, into: &mut B) -> Result<(), Unfit>
     ensures told { result ≡ unfit_for (A.Store.entries from.now) (B.Store.entries into.old) (B.Store.room into.old) }
-    ensures copied { result ≡ None → IsPermutation (A.Store.entries from.now) (B.Store.entries into.new) }
-    ensures left { result ≡ None → B.Store.room into.new ≡ B.Store.room into.old - length (A.Store.entries from.now) }
-    ensures refused { (result ≢ None) → into.new ≡ into.old }
+    ensures copied { is_ok result ≡ true → IsPermutation (A.Store.entries from.now) (B.Store.entries into.new) }
+    ensures left { is_ok result ≡ true → B.Store.room into.new ≡ B.Store.room into.old - length (A.Store.entries from.now) }
+    ensures refused { is_ok result ≡ false → into.new ≡ into.old }
 {
-    if let Some(why) = reason(from, into) {
-        return Some(why);
-    }
+    check_fit(from, into)?;
     let mut held = Record::placeholder();
+    // Kept: the rule of the project on reading: a store is read by number, and there is no iterator to go over.
     for k in 0..from.count() {
         let _there = from.read_at(k, &mut held);
         let _ = into.write(&held);
     }
-    None
+    Ok(())
 }

@@ -1,13 +1,14 @@
 // A store: records, no two with the same code, and room for so many more.
-ghost use Rattle.std.specs.Prelude.{◌≡◌, ℕ, false, List, length, is_ok};
+ghost use Rattle.std.specs.Prelude.{◌≡◌, ℕ, Bool, false, List, length, is_ok};
 ghost use Rattle.eic.specs.Views.{code_text};
 ghost use Rattle.fields.specs.Views.{display_text, function_text, object_text};
 ghost use Rattle.records.specs.Views.{entry_of};
-ghost use Rattle.rulebook.specs.Entries.{Apart, find, has_holder, has_namesake, nth};
+ghost use Rattle.rulebook.specs.Entries.{Apart, any, find, has_holder, has_namesake, nth};
 ghost use Rattle.rulebook.specs.Records.{Entry};
 ghost use Rattle.rulebook.specs.Stores.{Writes};
 ghost use Rattle.std.specs.Option.{option_map};
 ghost use Rattle.stores.specs.Reads.{Reads};
+ghost use Rattle.stores.specs.Tests.{Tests};
 
 use eic::codes::Code;
 use fields::names::DisplayName;
@@ -35,6 +36,7 @@ pub trait Store {
         ensures { result ≡ room self.now };
 
     // The record with this code.
+    // Kept: a rule of the project: a reading fills the caller's record or, with none there, says no and leaves it.
     fn read(&self, code: &Code, into: &mut Record) -> bool
         ensures { Reads (find (code_text code.now) (entries self.now)) into.old result into.new };
 
@@ -51,6 +53,7 @@ pub trait Store {
     }
 
     // The k-th record, counted from 0.
+    // Kept: the same rule of the project, as for read.
     fn read_at(&self, k: usize, into: &mut Record) -> bool
         ensures { Reads (nth k (entries self.now)) into.old result into.new };
 
@@ -58,31 +61,33 @@ pub trait Store {
         ensures wrote { Writes (entry_of from.now) (entries self.old) (room self.old) (is_ok result) (entries self.new) (room self.new) }
         ensures refused { is_ok result ≡ false → self.new ≡ self.old };
 
-    // Whether some record, active or not, has this object in this function.
-    fn has_holder(&self, object: &ObjectNumber, function: &Function) -> bool
-        ensures { result ≡ has_holder (object_text object.now) (function_text function.now) (entries self.now) }
+    // Whether some record, active or not, passes a test.
+    fn any<F: Fn(&Record) -> bool>(&self, test: F) -> bool
+        requires { F.IsAlwaysCallable test }
+        ensures { (p : Entry → Bool) → Tests F.Fn test p → result ≡ any p (entries self.now) }
     {
         let mut held = Record::placeholder();
+        // Kept: the rule of the project on reading: a store is read by number, and there is no iterator to go over.
         for k in 0..self.count() {
             let _there = self.read_at(k, &mut held);
-            if held.is_holder(object, function) {
+            if test(&held) {
                 return true;
             }
         }
         false
     }
 
+    // Whether some record, active or not, has this object in this function.
+    fn has_holder(&self, object: &ObjectNumber, function: &Function) -> bool
+        ensures { result ≡ has_holder (object_text object.now) (function_text function.now) (entries self.now) }
+    {
+        self.any(|held| held.is_holder(object, function))
+    }
+
     // Whether some other record of the code's type, active or not, has this display name.
     fn has_namesake(&self, code: &Code, display: &DisplayName) -> bool
         ensures { result ≡ has_namesake (code_text code.now) (display_text display.now) (entries self.now) }
     {
-        let mut held = Record::placeholder();
-        for k in 0..self.count() {
-            let _there = self.read_at(k, &mut held);
-            if held.is_namesake(code, display) {
-                return true;
-            }
-        }
-        false
+        self.any(|held| held.is_namesake(code, display))
     }
 }

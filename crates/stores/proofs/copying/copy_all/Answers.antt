@@ -1,5 +1,6 @@
-use Rattle.std.proofs.Common.{◌<◌, List, [], length, is_ok, sym, refl, subst, arith}
+use Rattle.std.proofs.Common.{◌<◌, List, [], length, is_ok, sym, subst, arith}
 use Rattle.std.specs.List.Sorted.{IsPermutation}
+use Rattle.std.proofs.lemmas.Bool.{true≢false}
 use Rattle.std.proofs.lemmas.List.{take_all}
 use Rattle.std.proofs.lemmas.List.Sorted.{IsPermutation-refl}
 use Rattle.rulebook.specs.Records.{Entry}
@@ -9,14 +10,14 @@ use Rattle.stores.proofs.copying.copy_all.Goals as goal
 pub loop-k-init : goal.loop-k-init
 loop-k-init g c =
     let ts = g.B.Store.entries c.args.into.now in
-    let f = fit (g.A.Store.entries c.args.from.now) ts (g.B.Store.room c.args.into.now) c.in_default.ensures in
+    let f = fit (g.A.Store.entries c.args.from.now) ts (g.B.Store.room c.args.into.now) c.in_ok-check_fit.ensures in
     (subst (λ (l : List Entry). IsPermutation [] l) (sym f.0) (IsPermutation-refl []), omega arith)
 
 pub loop-k-preserved : goal.loop-k-preserved
 loop-k-preserved g c =
     let es = g.A.Store.entries c.args.from.now in
     let k = c.loop-k.k in
-    let f = (fit es (g.B.Store.entries c.args.into.now) (g.B.Store.room c.args.into.now) c.in_default.ensures).1 in
+    let f = (fit es (g.B.Store.entries c.args.into.now) (g.B.Store.room c.args.into.now) c.in_ok-check_fit.ensures).1 in
     let n = c.count-k-end.ensures in
     let lt : k < length es = omega arith in
     let i = c.loop-k.invariant.1 in
@@ -33,8 +34,8 @@ returns g c =
     let n = c.count-k-end.ensures in
     let i = c.loop-k.invariant.1 in
     record {
-      told = c.in_default.ensures;
+      told = c.in_ok-check_fit.ensures;
       copied = λ _. subst (λ (l : List Entry). IsPermutation l (g.B.Store.entries c.loop-k.into)) (take_all c.loop-k.k es (omega arith)) c.loop-k.invariant.0;
       left = λ _. omega arith;
-      refused = λ q. absurd (q refl);
+      refused = λ q. absurd (true≢false q);
     }
