@@ -1,3 +1,1 @@
-mod Slots
-mod Shifts
-mod Writing
+mod Searching

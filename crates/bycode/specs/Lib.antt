@@ -1,3 +1,4 @@
 pub mod Order
-pub mod Views
 pub mod Apart
+pub mod Slots
+pub mod Laws

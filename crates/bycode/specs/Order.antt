@@ -1,12 +1,12 @@
 -- Rows in ascending order of their codes, byte by byte, and what a write does to them.
 -- A reader has to believe: a record is kept before the first record whose code does not stand before its own.
-use Rattle.std.specs.Prelude.{ℕ, suc, Bool, true, cond, ◌&&◌, List, [], ◌∷◌, ◌++◌, take, drop, Ok, Err, Result, slice_set}
-use Rattle.std.specs.List.{insert}
+use Rattle.std.specs.Prelude.{ℕ, suc, Bool, true, cond, ◌&&◌, List, [], ◌∷◌, Ok, Err, Result, slice_set}
 use Rattle.rulebook.specs.Texts.{Text, precedes}
 use Rattle.rulebook.specs.Records.{Entry}
 use Rattle.rulebook.specs.Entries.{is_held}
 use Rattle.eic.specs.Views.{code_text}
 use Rattle.records.specs.declared.Record.{Record}
+use Rattle.stores.specs.Moves.{opened}
 use Rattle.stores.specs.Rows.{held_in, by_case}
 
 -- every code stands after c
@@ -29,10 +29,6 @@ located c es = cond (is_held c es) (Ok (slot c es)) (Err (slot c es))
 
 abbrev pub slot_in : Record → ℕ → List Record → ℕ
 slot_in r n rows = slot (code_text r.code) (held_in n rows)
-
--- the record r at p, and the rows from p below n one place on
-abbrev pub opened : List Record → ℕ → ℕ → Record → List Record
-opened rows p n r = insert (take n rows) p r ++ drop (suc n) rows
 
 -- the rows after a write
 abbrev pub rows_after : Record → ℕ → List Record → List Record

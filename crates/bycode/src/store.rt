@@ -1,23 +1,5 @@
-// The rows, the first of which hold the records.
-ghost use Rattle.std.specs.Prelude.{◌≡◌, ◌≤◌, true, length};
-ghost use Rattle.bycode.specs.Order.{is_ascending};
-ghost use Rattle.rulebook.specs.Stores.{limit};
-ghost use Rattle.stores.specs.Rows.{held_in};
+// A store by code. A change rewrites its row alone; a new record takes its place and moves those after it.
+use super::order::Ascending;
+use stores::lent::Lent;
 
-use records::Record;
-
-pub mod opening;
-pub mod storing;
-
-#[derive(Drop)]
-struct Lent<'a> {
-    rows: &'a mut [Record],
-    used: usize,
-}
-
-#[derive(Drop)]
-pub struct ByCode<'a> {
-    lent: Lent<'a>,
-    ghost within: { lent.used ≤ limit (length lent.rows.now) },
-    ghost order: { is_ascending (held_in lent.used lent.rows.now) ≡ true },
-}
+pub type ByCode<'a> = Lent<'a, Ascending>;

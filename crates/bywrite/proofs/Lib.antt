@@ -1,3 +1,1 @@
-mod Finding
-mod Moving
-mod Writing
+mod Searching

@@ -1,13 +1,13 @@
 -- Rows in the order in which they were last written, and what a write does to them.
 -- A reader has to believe: a record that is written goes to the end of the list, and the record that had its code leaves it.
-use Rattle.std.specs.Prelude.{ℕ, suc, Bool, true, cond, not, ◌&&◌, List, [], ◌∷◌, ◌++◌, take, drop, slice_set}
-use Rattle.std.specs.List.{remove}
+use Rattle.std.specs.Prelude.{ℕ, suc, Bool, true, cond, not, ◌&&◌, List, [], ◌∷◌, length, Ok, Err, Result, slice_set}
 use Rattle.std.specs.Str.{bytes_eq}
 use Rattle.rulebook.specs.Texts.{Text}
 use Rattle.rulebook.specs.Records.{Entry}
 use Rattle.rulebook.specs.Entries.{is_held}
 use Rattle.eic.specs.Views.{code_text}
 use Rattle.records.specs.declared.Record.{Record}
+use Rattle.stores.specs.Moves.{renewed}
 use Rattle.stores.specs.Rows.{held_in, by_case}
 
 -- no code stands twice
@@ -23,9 +23,9 @@ place c (e ∷ es) = cond (bytes_eq e.code c) 0 (suc (place c es))
 abbrev pub place_in : Record → ℕ → List Record → ℕ
 place_in r n rows = place (code_text r.code) (held_in n rows)
 
--- the row at p goes, those after it below n move down, and r stands last
-abbrev pub renewed : List Record → ℕ → ℕ → Record → List Record
-renewed rows p n r = remove (take n rows) p ++ (r ∷ drop n rows)
+-- where the code c stands or, where it is not held, would stand
+abbrev pub located : Text → List Entry → Result ℕ ℕ
+located c es = cond (is_held c es) (Ok (place c es)) (Err (length es))
 
 -- the rows after a write
 abbrev pub rows_after : Record → ℕ → List Record → List Record

@@ -1,5 +1,5 @@
 // A store over lent rows, in which the record last written stands last.
 #![tactic(auto)]
 
-mod keeping;
+pub mod order;
 pub mod store;

@@ -2,5 +2,7 @@
 #![tactic(auto)]
 
 pub mod copying;
+pub mod lent;
+pub mod order;
 pub mod rows;
 pub mod store;
