@@ -65,7 +65,7 @@ day_same y m d y' m' d' h h' e =
     let ey : y ≡ y' = omega arith in
     let em : m ≡ m' = omega arith in
     let ed : d ≡ d' = omega arith in
-    ap (λ (k : ℕ). (k, (m, d))) ey ∙ ap (λ (k : ℕ). (y', (k, d))) em ∙ ap (λ (k : ℕ). (y', (m', k))) ed
+    λ i. (ey i, (em i, ed i))
 
 pub date_same : (a b : Date) → date_text a ≡ date_text b → a ≡ b
 date_same a b e =
@@ -82,7 +82,7 @@ kept_same : (n : ℕ) (xs ys : Text) (k m : ℕ) → length xs ≡ n → length 
 kept_same n xs ys k m lx ly hk hm cx cy e =
     let s : k ≡ m = omega (arith, sym (length-take-le k xs (omega arith)) ∙ ap length e ∙ length-take-le m ys (omega arith)) in
     let t : xs ≡ ys = sym (take-append-drop k xs) ∙ ap (λ (l : Text). l ++ drop k xs) e ∙ ap (λ (l : Text). take m ys ++ l) (cx ∙ ap (λ (j : ℕ). replicate (n - j) 0) s ∙ sym cy) ∙ take-append-drop m ys in
-    ap (λ (l : Text). (l, k)) t ∙ ap (λ (j : ℕ). (ys, j)) s
+    λ i. (t i, s i)
 
 pub bounded_same : {n : ℕ} (a b : Bounded n) → bounded_text a ≡ bounded_text b → a ≡ b
 bounded_same {n} a b e =

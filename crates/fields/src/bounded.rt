@@ -3,6 +3,7 @@ ghost use Rattle.std.specs.Prelude.{◌≡◌, ◌-◌, ◌≤◌, length, drop,
 
 pub mod making;
 
+// Kept: a rule of the project needs it, fixed memory: a record is Copy, and an `ArrayVec` is not.
 #[derive(Clone, Copy, PartialEq, Eq)]
 pub struct Bounded<const N: usize> {
     bytes: [u8; N],

@@ -23,6 +23,8 @@ pub type DisplayName = Lawful<16, DisplayRule>;
 
 pub type Vat = Lawful<14, VatRule>;
 
+// Kept: tried, and no proof is made of a derived `Clone` and `Copy` on a generic struct with a ghost
+// field.
 impl<const N: usize, R: Rule<N>> Copy for Lawful<N, R> {}
 
 impl<const N: usize, R: Rule<N>> Clone for Lawful<N, R> {

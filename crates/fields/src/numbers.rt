@@ -3,7 +3,7 @@ ghost use Rattle.std.specs.Prelude.{◌-◌, ◌^◌, ◌≤◌, max};
 
 pub mod reading;
 
-// A number of 1 to so many digits, from 1 on; 1 is one of each width.
+// A number from 1 on, of so many digits at most. A number of any width may be 1.
 #[derive(Clone, Copy, PartialEq, Eq, Debug)]
 pub struct Number<const DIGITS: usize> {
     number: u64,

@@ -126,6 +126,7 @@ impl Date {
     }
 
     // Whether its day lies before the other's.
+    // Kept: `date < held.date` at a call is no plainer, since it names no rule of the office.
     pub fn is_before(&self, other: &Date) -> bool
         ensures { result ≡ is_earlier (date_text self.now) (date_text other.now) }
     {

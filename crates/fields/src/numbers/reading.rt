@@ -30,7 +30,7 @@ fn is_number(most: usize, text: &[u8]) -> bool
     is_up_to(most, text, |byte| byte.is_ascii_digit()) && text[0] != b'0'
 }
 
-// Of a wider number nineteen digits are read, as many as 64 bits hold.
+// However wide the number, no more than nineteen digits are read, which 64 bits hold.
 impl<const DIGITS: usize> TryFrom<&[u8]> for Number<DIGITS> {
     type Error = Refusal;
 
