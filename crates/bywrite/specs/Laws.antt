@@ -15,7 +15,7 @@ use Rattle.records.specs.declared.Record.{Record}
 use Rattle.stores.specs.Moves.{renewed, opened}
 use Rattle.stores.specs.Orders.{Stands, Locates, IsOrder}
 use Rattle.stores.specs.Rows.{held_in}
-use Rattle.stores.proofs.Keeping.{by_held, by_free, by_full}
+use Rattle.stores.proofs.Keeping.{by_held, by_free, by_full, ok_is, err_is}
 use Rattle.stores.proofs.Moving.{opened_last}
 use Rattle.stores.proofs.Reading.{length_held}
 use Rattle.bywrite.specs.Distinct.{distinct_apart}
@@ -33,34 +33,25 @@ stands c [] h = absurd (both_ways false refl h)
 stands c (x ∷ es) h = stands_by c x es (bytes_eq x.code c) refl (stands c es) h
 
 module _ (c : Text) (es : List Entry) where
-  there_by : (p : ℕ) (b : Bool) → is_held c es ≡ b → cond b (Ok (place c es)) (Err (length es)) ≡ Ok p → (is_held c es ≡ true) × (p ≡ place c es)
-  there_by p true t e = (t, (cc))
-  there_by p false t e = absurd (let z : ◌≡◌ {A = ℕ} 0 1 = cc in omega arith)
-
-  lacks_by : (p : ℕ) (b : Bool) → is_held c es ≡ b → cond b (Ok (place c es)) (Err (length es)) ≡ Err p → (is_held c es ≡ false) × (p ≡ length es)
-  lacks_by p true t e = absurd (let z : ◌≡◌ {A = ℕ} 0 1 = cc in omega arith)
-  lacks_by p false t e = (t, (cc))
-
   there : (p : ℕ) → located c es ≡ Ok p → (is_held c es ≡ true) × (p ≡ place c es)
-  there p e = there_by p (is_held c es) refl e
+  there p e = ok_is (is_held c es) (place c es) (length es) p e
 
   lacks : (p : ℕ) → located c es ≡ Err p → (is_held c es ≡ false) × (p ≡ length es)
-  lacks p e = lacks_by p (is_held c es) refl e
+  lacks p e = err_is (is_held c es) (place c es) (length es) p e
 
   locates_by : (b : Bool) → is_held c es ≡ b → Locates c es (cond b (Ok (place c es)) (Err (length es)))
   locates_by true t = stands c es t
   locates_by false t = record { within = omega arith; unheld = t }
 
 -- ---- what a write keeps
-changed : (e : Entry) (es : List Entry) (p : ℕ) → is_distinct es ≡ true → located e.code es ≡ Ok p → p < length es → is_distinct (renewed es p (length es - 1 + 1) e) ≡ true
-changed e es p u is lt =
-    let t = there e.code es p is in
+changed : (e : Entry) (es : List Entry) (p : ℕ) → is_distinct es ≡ true → Stands e.code es p → is_distinct (renewed es p (length es - 1 + 1) e) ≡ true
+changed e es p u s =
+    let i = s.inside in
     let z : length es - 1 + 1 ≡ length es = omega arith in
     ap (λ (n : ℕ). is_distinct (renewed es p n e)) z
     ∙ ap (λ (ys : List Entry). is_distinct (remove ys p ++ (e ∷ drop (length es) es))) (take_all (length es) es (omega arith))
     ∙ ap (λ (ys : List Entry). is_distinct (remove es p ++ (e ∷ ys))) (drop_all (length es) es (omega arith))
-    ∙ ap (λ (k : ℕ). is_distinct (remove es k ++ e ∷ [])) t.1
-    ∙ renewed_distinct e es (place e.code es) (stands e.code es t.0) ∙ u
+    ∙ renewed_distinct e es p s ∙ u
 
 added : (e : Entry) (es : List Entry) (p : ℕ) → is_distinct es ≡ true → located e.code es ≡ Err p → is_distinct (insert es p e) ≡ true
 added e es p u is =
@@ -71,19 +62,21 @@ added e es p u is =
     ∙ distinct_last es e ∙ and_from (not (is_held e.code es)) (is_distinct es) (not_from_false _ t.0) u
 
 -- ---- every row after it
-rows_changed : (r : Record) (n : ℕ) (xs : List Record) (p : ℕ) → n ≤ length xs → p < n → located (code_text r.code) (held_in n xs) ≡ Ok p → is_held (code_text r.code) (held_in n xs) ≡ true → renewed xs p (n - 1 + 1) r ≡ rows_after r n xs
-rows_changed r n xs p h lt is t =
+rows_changed : (r : Record) (n : ℕ) (xs : List Record) (p : ℕ) → n ≤ length xs → p < n → located (code_text r.code) (held_in n xs) ≡ Ok p → renewed xs p (n - 1 + 1) r ≡ rows_after r n xs
+rows_changed r n xs p h lt is =
+    let t = there (code_text r.code) (held_in n xs) p is in
     let z : n - 1 + 1 ≡ n = omega arith in
-    ap (λ (m : ℕ). renewed xs p m r) z ∙ ap (λ (k : ℕ). renewed xs k n r) (there (code_text r.code) (held_in n xs) p is).1
-    ∙ by_held r n xs (renewed xs (place_in r n xs) n r) (slice_set xs n r) xs t
+    ap (λ (m : ℕ). renewed xs p m r) z ∙ ap (λ (k : ℕ). renewed xs k n r) t.1
+    ∙ by_held r n xs (renewed xs (place_in r n xs) n r) (slice_set xs n r) xs t.0
 
-rows_added : (r : Record) (n : ℕ) (xs : List Record) (p : ℕ) → n < limit (length xs) → p ≤ n → located (code_text r.code) (held_in n xs) ≡ Err p → is_held (code_text r.code) (held_in n xs) ≡ false → opened xs p n r ≡ rows_after r n xs
-rows_added r n xs p lt h is t =
+rows_added : (r : Record) (n : ℕ) (xs : List Record) (p : ℕ) → n < limit (length xs) → located (code_text r.code) (held_in n xs) ≡ Err p → opened xs p n r ≡ rows_after r n xs
+rows_added r n xs p lt is =
     let l = length_held n xs (omega arith) in
-    let e = (lacks (code_text r.code) (held_in n xs) p is).1 in
+    let t = lacks (code_text r.code) (held_in n xs) p is in
+    let e = t.1 in
     let z : p ≡ n = omega arith in
     ap (λ (k : ℕ). opened xs k n r) z ∙ opened_last xs n r (omega arith)
-    ∙ by_free r n xs (renewed xs (place_in r n xs) n r) (slice_set xs n r) xs t lt
+    ∙ by_free r n xs (renewed xs (place_in r n xs) n r) (slice_set xs n r) xs t.0 lt
 
 pub last_write_order : IsOrder is_distinct located (λ p last. last) rows_after
 last_write_order = record {

@@ -97,10 +97,10 @@ module _ (stands : List Entry → Bool) (located : Text → List Entry → Resul
       held_changed = let w = change_fits in let a = w.0 in let b = w.1 in front_renewed entry_of xs p (rests p (n - 1) + 1) n r (omega arith) (omega arith) (omega arith)
 
       pub puts_changed : Puts (after r n xs) r n xs true n changed
-      puts_changed = record { told = told_held held; used = by_held r n xs n (n + 1) n held; rows = o.rows_changed r n xs p (omega arith) inside (sym is) held }
+      puts_changed = record { told = told_held held; used = by_held r n xs n (n + 1) n held; rows = o.rows_changed r n xs p (omega arith) inside (sym is) }
 
       pub stands_changed : stands (held_in n changed) ≡ true
-      stands_changed = ap stands (held_changed ∙ ap (λ (k : ℕ). renewed es p (rests p (k - 1) + 1) e) (sym long)) ∙ o.changed e es p u (sym is) (there e.code es p u is).inside
+      stands_changed = ap stands (held_changed ∙ ap (λ (k : ℕ). renewed es p (rests p (k - 1) + 1) e) (sym long)) ∙ o.changed e es p u (there e.code es p u is)
 
       pub writes_changed : Writes e es (room_in n xs) true (held_in n changed) (room_in n changed)
       writes_changed =
@@ -142,7 +142,7 @@ module _ (stands : List Entry → Bool) (located : Text → List Entry → Resul
         told_added = let t = unheld in rw (t, lt-ltb 0 (room_in n xs) (omega arith)) refl
 
         pub puts_added : Puts (after r n xs) r n xs true (n + 1) added
-        puts_added = record { told = told_added; used = by_free r n xs n (n + 1) n unheld lt; rows = o.rows_added r n xs p lt outside (sym is) unheld }
+        puts_added = record { told = told_added; used = by_free r n xs n (n + 1) n unheld lt; rows = o.rows_added r n xs p lt (sym is) }
 
         pub stands_added : stands (held_in (n + 1) added) ≡ true
         stands_added = ap stands held_added ∙ o.added e es p u (sym is)

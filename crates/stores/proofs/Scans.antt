@@ -1,10 +1,9 @@
 -- A scan of a store's records for one that passes a test. Assumes nothing.
-use Rattle.std.proofs.Common.{◌≡◌, ℕ, ◌+◌, ◌<◌, Bool, true, false, List, length, get_or, drop, Option, unwrap_or, sym, ap, ◌∙◌, arith}
+use Rattle.std.proofs.Common.{◌≡◌, ℕ, ◌+◌, ◌<◌, Bool, true, false, List, length, get_or, drop, Option, unwrap_or, sym, ap, ◌∙◌}
 use Rattle.rulebook.specs.Records.{Entry}
 use Rattle.rulebook.specs.Entries.{nth, any}
 use Rattle.rulebook.proofs.Entries.{nth_some, any_hit, any_miss}
-use Rattle.std.proofs.lemmas.List.{length-map, get_or-map}
-use Rattle.records.specs.Views.{entry_of, entries_of}
+use Rattle.records.specs.Views.{entry_of}
 use Rattle.records.specs.declared.Record.{Record}
 use Rattle.stores.specs.Reads.{Reads}
 
@@ -18,14 +17,3 @@ module _ (p : Entry → Bool) (es : List Entry) (k : ℕ) (h : k < length es) (b
 
   pub scan_miss : false ≡ p (entry_of after) → any p (drop k es) ≡ any p (drop (k + 1) es)
   scan_miss e = any_miss p es k (entry_of before) h (ap p read_is ∙ sym e)
-
--- the k-th row, in which x stands
-module _ (p : Entry → Bool) (xs : List Record) (k : ℕ) (x : Record) (lt : k < length xs) (is : x ≡ get_or xs k x) where
-  row_is : get_or (entries_of xs) k (entry_of x) ≡ entry_of x
-  row_is = get_or-map entry_of xs k x (entry_of x) lt ∙ ap entry_of (sym is)
-
-  pub row_hit : true ≡ p (entry_of x) → any p (drop k (entries_of xs)) ≡ true
-  row_hit e = let l = length-map xs entry_of in any_hit p (entries_of xs) k (entry_of x) (omega arith) (ap p row_is ∙ sym e)
-
-  pub row_miss : false ≡ p (entry_of x) → any p (drop k (entries_of xs)) ≡ any p (drop (k + 1) (entries_of xs))
-  row_miss e = let l = length-map xs entry_of in any_miss p (entries_of xs) k (entry_of x) (omega arith) (ap p row_is ∙ sym e)

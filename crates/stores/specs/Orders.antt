@@ -31,10 +31,10 @@ pub record IsOrder (stands : List Entry → Bool) (located : Text → List Entry
   pub apart : (es : List Entry) → stands es ≡ true → Apart es
   pub locates : (c : Text) (es : List Entry) → stands es ≡ true → Locates c es (located c es)
   pub upward : (p last : ℕ) → p ≤ last → (p ≤ rests p last) × (rests p last ≤ last)
-  -- a change and a new record leave records that stand so
-  pub changed : (e : Entry) (es : List Entry) (p : ℕ) → stands es ≡ true → located e.code es ≡ Ok p → p < length es → stands (renewed es p (rests p (length es - 1) + 1) e) ≡ true
+  -- a change of the record that stands at p, and a new record, leave records that stand so
+  pub changed : (e : Entry) (es : List Entry) (p : ℕ) → stands es ≡ true → Stands e.code es p → stands (renewed es p (rests p (length es - 1) + 1) e) ≡ true
   pub added : (e : Entry) (es : List Entry) (p : ℕ) → stands es ≡ true → located e.code es ≡ Err p → stands (insert es p e) ≡ true
   -- the rows after a change, after a new record, and after a refusal
-  pub rows_changed : (r : Record) (n : ℕ) (xs : List Record) (p : ℕ) → n ≤ length xs → p < n → located (code_text r.code) (held_in n xs) ≡ Ok p → is_held (code_text r.code) (held_in n xs) ≡ true → renewed xs p (rests p (n - 1) + 1) r ≡ after r n xs
-  pub rows_added : (r : Record) (n : ℕ) (xs : List Record) (p : ℕ) → n < limit (length xs) → p ≤ n → located (code_text r.code) (held_in n xs) ≡ Err p → is_held (code_text r.code) (held_in n xs) ≡ false → opened xs p n r ≡ after r n xs
+  pub rows_changed : (r : Record) (n : ℕ) (xs : List Record) (p : ℕ) → n ≤ length xs → p < n → located (code_text r.code) (held_in n xs) ≡ Ok p → renewed xs p (rests p (n - 1) + 1) r ≡ after r n xs
+  pub rows_added : (r : Record) (n : ℕ) (xs : List Record) (p : ℕ) → n < limit (length xs) → located (code_text r.code) (held_in n xs) ≡ Err p → opened xs p n r ≡ after r n xs
   pub rows_refused : (r : Record) (n : ℕ) (xs : List Record) → limit (length xs) ≤ n → is_held (code_text r.code) (held_in n xs) ≡ false → xs ≡ after r n xs

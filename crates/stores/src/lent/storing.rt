@@ -49,11 +49,6 @@ impl<O: Order> Store for Lent<'_, O> {
     }
 
     fn any<F: Fn(&Record) -> bool>(&self, test: F) -> bool {
-        for held in self.rows.held() {
-            if test(held) {
-                return true;
-            }
-        }
-        false
+        self.rows.held().iter().any(&test)
     }
 }

@@ -1,19 +1,22 @@
-use Rattle.std.proofs.Common.{true, false, List, sym, refl, ap, ◌∙◌, arith}
+use Rattle.std.proofs.Common.{◌≡◌, Bool, ◌||◌, List, [], ◌∷◌, map, take, refl, ap, ◌∙◌}
+use Rattle.std.specs.List.{list_any}
+use Rattle.std.proofs.lemmas.Iterator.{YieldsList-from_slice}
+use Rattle.std.proofs.lemmas.Iterator.Adapters.{serves_from_places}
+use Rattle.std.proofs.lemmas.Iterator.Search.{any_from_yields_List}
+use Rattle.rulebook.specs.Records.{Entry}
 use Rattle.rulebook.specs.Entries.{any}
-use Rattle.records.specs.Views.{entries_of}
+use Rattle.records.specs.Views.{entry_of}
 use Rattle.records.specs.declared.Record.{Record}
-use Rattle.stores.proofs.Scans.{row_hit, row_miss}
 use Rattle.stores.proofs.lent.storing.LentStore.any.Goals as goal
 
-pub returns-then-test : goal.returns-then-test
-returns-then-test g c = λ p t.
-    let x = c.held-item.result in
-    let says = t x true (record { shown = _; shows = refl; says = record { met = c.if-test.ensures } }) in
-    sym (c.loop-held.invariant p t ∙ row_hit p c.held-held-items.result.now c.loop-held.held-index x (omega arith) c.held-item.is says)
-    ∙ ap (λ (xs : List Record). any p (entries_of xs)) c.held-held-items.ensures
+any_entries : (p : Entry → Bool) (xs : List Record) → list_any (λ r. p (entry_of r)) xs ≡ any p (map entry_of xs)
+any_entries p [] = refl
+any_entries p (x ∷ xs) = ap (λ b. p (entry_of x) || b) (any_entries p xs)
 
-pub loop-held-preserved : goal.loop-held-preserved
-loop-held-preserved g c = λ p t.
-    let x = c.held-item.result in
-    let says = t x false (record { shown = _; shows = refl; says = record { met = c.if-test.ensures } }) in
-    c.loop-held.invariant p t ∙ row_miss p c.held-held-items.result.now c.loop-held.held-index x (omega arith) c.held-item.is says
+pub any-requires-clause-callable : goal.any-requires-clause-callable
+any-requires-clause-callable g c = serves_from_places (YieldsList-from_slice c.held.result.now (cc)) (λ x q k. k.met.1) (λ x i l e. c.requires.at (x, tt))
+
+pub returns : goal.returns
+returns g c = λ p t.
+    any_from_yields_List (λ r. p (entry_of r)) _ _ c.any.result c.any.ensures.ran (YieldsList-from_slice c.held.result.now (cc)) (λ x b q k. (k.met.1, t x.now b (record { shown = x; shows = refl; says = record { met = k.met.0 } })))
+    ∙ ap (λ ys. list_any (λ r. p (entry_of r)) ys) c.held.ensures ∙ any_entries p (take c.args.self.now.rows.used c.args.self.now.rows.rows.now)
