@@ -1,9 +1,8 @@
--- What actions, statuses and decisions stand for.
-use Rattle.std.specs.Prelude.{Bool, Some, None, Ok, Err, Option, Result}
+-- What actions and decisions stand for.
+use Rattle.std.specs.Prelude.{Some, None, Ok, Err, Option, Result}
 use Rattle.grounds.specs.declared.Refusal.{Refusal}
 use Rattle.rulebook.specs.Outcomes as rules
-use Rattle.records.specs.Views.{is_active, entry_of}
-use Rattle.records.specs.declared.Status.{Status}
+use Rattle.records.specs.Views.{entry_of}
 use Rattle.decisions.specs.declared.moves.Action.{Action}
 use Rattle.decisions.specs.declared.moves.Action.TheVariants.{Create, Change, Deactivate, Reactivate}
 use Rattle.decisions.specs.declared.Grant.{Grant}
@@ -14,11 +13,6 @@ action_of Create = rules.creation
 action_of Change = rules.change
 action_of Deactivate = rules.deactivation
 action_of Reactivate = rules.reactivation
-
--- the status of a record, where there is one
-abbrev pub active_in : Option Status → Option Bool
-active_in None = None
-active_in (Some s) = Some (is_active s)
 
 abbrev pub grant_of : Grant → rules.Grant
 grant_of (Created r) = rules.created (entry_of r)

@@ -1,30 +1,21 @@
-use Rattle.std.proofs.Common.{Bool, Ok, Err, Result, sym, ap, ◌∙◌}
-use Rattle.grounds.specs.declared.Ground.TheVariants.{EarlierDate}
-use Rattle.grounds.specs.declared.Refusal.{Refusal}
-use Rattle.rulebook.specs.Outcomes.{Grant, revised, ground_if, refusing, entry}
+use Rattle.std.proofs.Common.{◌≡◌, Bool, false, List, Some, Ok, sym, refl, ap, ◌∙◌, rules}
+use Rattle.std.specs.Option.{option_map}
+use Rattle.rulebook.specs.Texts.{Text}
+use Rattle.rulebook.specs.Dates.{is_earlier}
+use Rattle.rulebook.specs.Records.{Entry}
+use Rattle.rulebook.specs.Entries.{find}
+use Rattle.rulebook.specs.Outcomes.{Action, revised, moved, entry, restated}
+use Rattle.rulebook.proofs.Entries.{find_some}
 use Rattle.eic.specs.Views.{code_text}
-use Rattle.fields.specs.Views.{date_text}
-use Rattle.records.specs.Views.{entry_of, is_active}
-use Rattle.decisions.specs.Views.{action_of}
-use Rattle.decisions.proofs.Founds.{restated_is}
+use Rattle.records.specs.Views.{entry_of}
 use Rattle.decisions.proofs.restate.Goals as goal
 
-pub returns-then-is_before : goal.returns-then-is_before
-returns-then-is_before g c =
-    let d = date_text c.args.date.now in
-    let k = code_text c.args.code.now in
-    let held = entry_of c.status_after.new.held in
-    let s = is_active c.in_ok-status.status in
-    let done : Result Grant Refusal = Ok (revised (entry k s d held.registration)) in
-    ap (λ (e : Refusal). Err e) c.in_field.ensures ∙ ap (λ (b : Bool). refusing (ground_if b EarlierDate 2) done) c.if-is_before.ensures
-    ∙ sym (restated_is (g.S.Store.entries c.args.store.now) (action_of c.args.action) d k s (entry_of c.placeholder-held.result) held c.requires c.in_ok-status.ensures.told c.in_ok-status.ensures.shown)
+-- the record with the code c, after an action that its status and date allow
+restated_is : (es : List Entry) (a : Action) (d c : Text) (e : Entry) (active : Bool) → find c es ≡ Some e → moved (Some e.active) a ≡ Ok active → is_earlier d e.date ≡ false
+    → restated es a d c ≡ Ok (revised (entry e.code active d e.registration))
+restated_is es a d c e active f m n = rw (f, m, n, sym (find_some c es e f).1) refl
 
 pub returns : goal.returns
 returns g c =
-    let d = date_text c.args.date.now in
-    let k = code_text c.args.code.now in
-    let held = entry_of c.status_after.new.held in
-    let s = is_active c.in_ok-status.status in
-    let done : Result Grant Refusal = Ok (revised (entry k s d held.registration)) in
-    ap (λ (b : Bool). refusing (ground_if b EarlierDate 2) done) c.if-is_before.ensures
-    ∙ sym (restated_is (g.S.Store.entries c.args.store.now) (action_of c.args.action) d k s (entry_of c.placeholder-held.result) held c.requires c.in_ok-status.ensures.told c.in_ok-status.ensures.shown)
+    let f : find (code_text c.args.dated.now.code) (g.S.Store.entries c.args.store.now) ≡ Some (entry_of c.in-Some.held) = sym c.get-held.ensures ∙ ap (option_map entry_of) c.in-Some.is in
+    sym (restated_is (g.S.Store.entries c.args.store.now) _ _ _ _ _ f (search rules) (sym c.if-is_before.ensures))
