@@ -29,21 +29,15 @@ pub enum Call {
 
 fn make_call<S: Store>(register: &mut Register<S>, call: &mut Call)
     ensures asked { asked_by call.new ≡ asked_by call.old }
-    ensures carries { Carries (state_of S.Store.entries S.Store.room register.old) (event_of call.old call.new) (state_of S.Store.entries S.Store.room register.new) }
+    ensures carries { Carries (state_of S.Store register.old) (event_of call.old call.new) (state_of S.Store register.new) }
 {
     match call {
         Call::Submit {
             line,
             buffer,
             reply,
-        } => {
-            let told = register.submit(line, buffer);
-            *reply = told;
-        }
-        Call::LookUp { text, into, answer } => {
-            let told = register.look_up(text, into);
-            *answer = told;
-        }
+        } => *reply = register.submit(line, buffer),
+        Call::LookUp { text, into, answer } => *answer = register.look_up(text, into),
     }
 }
 
@@ -51,8 +45,8 @@ fn make_call<S: Store>(register: &mut Register<S>, call: &mut Call)
 // definition says of the state at its moment; and from an empty store the law holds of the whole list.
 pub fn run<S: Store>(office: Office, store: S, calls: &mut [Call]) -> Register<S>
     ensures asked { map asked_by calls.new ≡ map asked_by calls.old }
-    ensures reached { Reached (state_with S.Store.entries S.Store.room (office_text office) store) (history_of calls.old calls.new) (state_of S.Store.entries S.Store.room result) }
-    ensures lasting { S.Store.entries store ≡ [] → Lasting (history_of calls.old calls.new) (state_of S.Store.entries S.Store.room result) }
+    ensures reached { Reached (state_with S.Store (office_text office) store) (history_of calls.old calls.new) (state_of S.Store result) }
+    ensures lasting { S.entries store ≡ [] → Lasting (history_of calls.old calls.new) (state_of S.Store result) }
 {
     let mut register = Register::open(office, store);
     for call in calls.iter_mut() {

@@ -29,17 +29,11 @@ pub struct Register<S> {
 }
 
 // What a call tells of a line: granted or refused, and the length of the answer line.
+// Kept: a rule of the project, fixed memory: the answer stands in the caller's buffer, and its length beside the verdict.
 #[derive(Clone, Copy)]
 pub struct Reply {
     pub verdict: Result<(), Refusal>,
     pub length: usize,
-}
-
-// A refusal with no field in fault.
-fn refuse(ground: Ground) -> Refusal
-    ensures { result ≡ record { ground = ground; field = 0; position = 0 } }
-{
-    Refusal::new(ground, 0)
 }
 
 impl<S: Store> Register<S> {
@@ -47,7 +41,7 @@ impl<S: Store> Register<S> {
     pub fn open(office: Office, store: S) -> Register<S>
         ensures office { result.office ≡ office }
         ensures store { result.store ≡ store }
-        ensures reached { Reached (state_of S.Store.entries S.Store.room result) [] (state_of S.Store.entries S.Store.room result) }
+        ensures reached { Reached (state_of S.Store result) [] (state_of S.Store result) }
     {
         Register { office, store }
     }
@@ -56,14 +50,13 @@ impl<S: Store> Register<S> {
     pub fn close(self) -> S
         ensures { result ≡ self.store }
     {
-        let Register { office: _, store } = self;
-        store
+        self.store
     }
 
     // What a line comes to, room and buffer aside.
     fn judge(&self, line: &[u8]) -> Result<Grant, Refusal>
-        ensures told { viewed grant_of result ≡ judged (office_text self.now.office) (S.Store.entries self.now.store) line.now }
-        ensures fits { IfOk result (λ g. Fitting (S.Store.entries self.now.store) (grant_of g)) }
+        ensures told { viewed grant_of result ≡ judged (office_text self.now.office) (S.entries self.now.store) line.now }
+        ensures fits { IfOk result (λ g. Fitting (S.entries self.now.store) (grant_of g)) }
     {
         let command = read_line(&self.office, line)?;
         decide(&self.store, &command)
@@ -71,42 +64,39 @@ impl<S: Store> Register<S> {
 
     // Writes what is granted; a new record may meet no room.
     fn carry_out(&mut self, grant: &Grant) -> Result<Record, Refusal>
-        requires { Fitting (S.Store.entries self.old.store) (grant_of grant.now) }
-        ensures comes { Comes (roomed (S.Store.room self.old.store) (grant_of grant.now)) (state_of S.Store.entries S.Store.room self.old) (viewed entry_of result) (state_of S.Store.entries S.Store.room self.new) }
+        requires { Fitting (S.entries self.old.store) (grant_of grant.now) }
+        ensures comes { Comes (roomed (S.room self.old.store) (grant_of grant.now)) (state_of S.Store self.old) (viewed entry_of result) (state_of S.Store self.new) }
         ensures refused { is_ok result ≡ false → self.new ≡ self.old }
     {
         match grant {
-            Grant::Created(new) => match self.store.write(new) {
-                Ok(()) => Ok(*new),
-                Err(_) => Err(refuse(Ground::NoRoom)),
-            },
-            Grant::Revised(new) => match self.store.write(new) {
-                Ok(()) => Ok(*new),
-                Err(_) => Err(refuse(Ground::NoRoom)),
-            },
+            Grant::Created(new) | Grant::Revised(new) => {
+                self.store.write(new).map_err(|_| Ground::NoRoom)?;
+                Ok(*new)
+            }
             Grant::Shown(held) => Ok(*held),
         }
     }
 
     // What a line with an answer buffer of this size comes to.
     fn perform(&mut self, line: &[u8], size: usize) -> Result<Record, Refusal>
-        ensures comes { Comes (outcome_of (state_of S.Store.entries S.Store.room self.old) line.now size) (state_of S.Store.entries S.Store.room self.old) (viewed entry_of result) (state_of S.Store.entries S.Store.room self.new) }
+        ensures comes { Comes (outcome_of (state_of S.Store self.old) line.now size) (state_of S.Store self.old) (viewed entry_of result) (state_of S.Store self.new) }
         ensures refused { is_ok result ≡ false → self.new ≡ self.old }
     {
         if size < 200 {
-            return Err(refuse(Ground::Buffer));
+            return Err(Ground::Buffer.into());
         }
         let grant = self.judge(line)?;
         self.carry_out(&grant)
     }
 
-    // A request line with a buffer for its answer, granted or refused.
-    fn answer(&mut self, line: &[u8], buffer: &mut [u8]) -> Reply
-        ensures answered { Submits S.Store.entries S.Store.room self.old line.now buffer.old result buffer.new self.new }
+    // A request line with a buffer for its answer: granted or refused as the definition says of the state
+    // at this moment. A refusal leaves the register as it was. Every history goes on, and the law with it.
+    pub fn submit(&mut self, line: &[u8], buffer: &mut [u8]) -> Reply
+        ensures answered { Submits S.Store self.old line.now buffer.old result buffer.new self.new }
         ensures refused { is_ok result.verdict ≡ false → self.new ≡ self.old }
+        ensures carries { SubmitCarries S.Store self.old line.now buffer.old result buffer.new self.new }
     {
-        let size = buffer.len();
-        match self.perform(line, size) {
+        match self.perform(line, buffer.len()) {
             Ok(held) => Reply {
                 verdict: Ok(()),
                 length: write_record(&held, buffer),
@@ -118,35 +108,16 @@ impl<S: Store> Register<S> {
         }
     }
 
-    // A request line with a buffer for its answer: granted or refused as the definition says of the state
-    // at this moment. A refusal leaves the register as it was. Every history goes on, and the law with it.
-    pub fn submit(&mut self, line: &[u8], buffer: &mut [u8]) -> Reply
-        ensures answered { Submits S.Store.entries S.Store.room self.old line.now buffer.old result buffer.new self.new }
-        ensures refused { is_ok result.verdict ≡ false → self.new ≡ self.old }
-        ensures carries { SubmitCarries S.Store.entries S.Store.room self.old line.now buffer.old result buffer.new self.new }
-    {
-        self.answer(line, buffer)
-    }
-
-    // Fills the caller's record with the record of a code, or refuses and leaves it.
-    fn show(&self, text: &[u8], into: &mut Record) -> Result<(), Refusal>
-        ensures looked { LooksUp S.Store.entries S.Store.room self.now text.now (entry_of into.old) result (entry_of into.new) }
-        ensures left { is_ok result ≡ false → into.new ≡ into.old }
-    {
-        let code = Code::read_for(&self.office, text)?;
-        if !self.store.read(&code, into) {
-            return Err(refuse(Ground::NotRegistered));
-        }
-        Ok(())
-    }
-
     // The look-up of a code: the caller's record is filled with its record, or left as it was. Every history goes
     // on, and the law with it.
+    // Kept: a rule of the project: a look-up fills the caller's record or leaves it, and the law says so of histories.
     pub fn look_up(&self, text: &[u8], into: &mut Record) -> Result<(), Refusal>
-        ensures looked { LooksUp S.Store.entries S.Store.room self.now text.now (entry_of into.old) result (entry_of into.new) }
+        ensures looked { LooksUp S.Store self.now text.now (entry_of into.old) result (entry_of into.new) }
         ensures left { is_ok result ≡ false → into.new ≡ into.old }
-        ensures carries { LookCarries S.Store.entries S.Store.room self.now text.now (entry_of into.old) result (entry_of into.new) }
+        ensures carries { LookCarries S.Store self.now text.now (entry_of into.old) result (entry_of into.new) }
     {
-        self.show(text, into)
+        let code = Code::read_for(&self.office, text)?;
+        *into = self.store.get(&code).ok_or(Ground::NotRegistered)?;
+        Ok(())
     }
 }

@@ -6,6 +6,8 @@ use Rattle.register.proofs.calls.run.Given as goal
 
 abbrev pub invariant-loop-call : goal.invariant-loop-call
 invariant-loop-call g l =
-    (map asked_by l.calls ≡ map asked_by l.initial.calls)
-    × (drop l.call-index l.calls ≡ drop l.call-index l.initial.calls)
-    × Reached (state_of g.S.Store.entries g.S.Store.room l.initial.register) (history_on [] (take l.call-index l.initial.calls) (take l.call-index l.calls)) (state_of g.S.Store.entries g.S.Store.room l.register)
+    record {
+      asked : map asked_by l.calls ≡ map asked_by l.initial.calls;
+      rest : drop l.call-index l.calls ≡ drop l.call-index l.initial.calls;
+      reached : Reached (state_of g.S.Store l.initial.register) (history_on [] (take l.call-index l.initial.calls) (take l.call-index l.calls)) (state_of g.S.Store l.register);
+    }
