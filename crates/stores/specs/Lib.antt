@@ -1,7 +1,6 @@
 pub mod Reads
 pub mod Rows
 pub mod Copies
-pub mod Tests
 pub mod Moves
 pub mod Orders
 pub mod Views

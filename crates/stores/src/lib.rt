@@ -4,5 +4,6 @@
 pub mod copying;
 pub mod lent;
 pub mod order;
+pub mod questions;
 pub mod rows;
 pub mod store;

@@ -8,8 +8,8 @@ ghost use Rattle.rulebook.specs.Records.{Entry};
 ghost use Rattle.rulebook.specs.Stores.{Writes};
 ghost use Rattle.std.specs.Option.{option_map};
 ghost use Rattle.stores.specs.Reads.{Reads};
-ghost use Rattle.stores.specs.Tests.{Tests};
 
+use super::questions::{HasHolder, HasNamesake, Question};
 use eic::codes::Code;
 use fields::names::DisplayName;
 use fields::numbers::{Function, ObjectNumber};
@@ -61,16 +61,15 @@ pub trait Store {
         ensures wrote { Writes (entry_of from.now) (entries self.old) (room self.old) (is_ok result) (entries self.new) (room self.new) }
         ensures refused { is_ok result ≡ false → self.new ≡ self.old };
 
-    // Whether some record, active or not, passes a test.
-    fn any<F: Fn(&Record) -> bool>(&self, test: F) -> bool
-        requires { F.IsAlwaysCallable test }
-        ensures { (p : Entry → Bool) → Tests F.Fn test p → result ≡ any p (entries self.now) }
+    // Whether some record, active or not, answers a question with yes.
+    fn any<Q: Question>(&self, question: &Q) -> bool
+        ensures { result ≡ any (Q.asks question.now) (entries self.now) }
     {
         let mut held = Record::placeholder();
         // Kept: the rule of the project on reading: a store is read by number, and there is no iterator to go over.
         for k in 0..self.count() {
             let _there = self.read_at(k, &mut held);
-            if test(&held) {
+            if question.ask(&held) {
                 return true;
             }
         }
@@ -81,13 +80,13 @@ pub trait Store {
     fn has_holder(&self, object: &ObjectNumber, function: &Function) -> bool
         ensures { result ≡ has_holder (object_text object.now) (function_text function.now) (entries self.now) }
     {
-        self.any(|held| held.is_holder(object, function))
+        self.any(&HasHolder { object, function })
     }
 
     // Whether some other record of the code's type, active or not, has this display name.
     fn has_namesake(&self, code: &Code, display: &DisplayName) -> bool
         ensures { result ≡ has_namesake (code_text code.now) (display_text display.now) (entries self.now) }
     {
-        self.any(|held| held.is_namesake(code, display))
+        self.any(&HasNamesake { code, display })
     }
 }

@@ -5,6 +5,7 @@ ghost use Rattle.stores.specs.Rows.{held_in, room_in};
 ghost use Rattle.stores.specs.Views.{rows_of, used_of};
 
 use super::super::order::Order;
+use super::super::questions::Question;
 use super::super::store::{Full, Store};
 use super::Lent;
 use eic::codes::Code;
@@ -48,7 +49,7 @@ impl<O: Order> Store for Lent<'_, O> {
         self.put(from)
     }
 
-    fn any<F: Fn(&Record) -> bool>(&self, test: F) -> bool {
-        self.rows.held().iter().any(&test)
+    fn any<Q: Question>(&self, question: &Q) -> bool {
+        self.rows.held().iter().any(|held| question.ask(held))
     }
 }

@@ -1,7 +1,6 @@
-use Rattle.std.proofs.Common.{◌≡◌, Bool, ◌||◌, List, [], ◌∷◌, map, take, refl, ap, ◌∙◌}
+use Rattle.std.proofs.Common.{◌≡◌, Bool, ◌||◌, List, [], ◌∷◌, map, take, rules, refl, ap, ◌∙◌}
 use Rattle.std.specs.List.{list_any}
 use Rattle.std.proofs.lemmas.Iterator.{YieldsList-from_slice}
-use Rattle.std.proofs.lemmas.Iterator.Adapters.{serves_from_places}
 use Rattle.std.proofs.lemmas.Iterator.Search.{any_from_yields_List}
 use Rattle.rulebook.specs.Records.{Entry}
 use Rattle.rulebook.specs.Entries.{any}
@@ -13,10 +12,8 @@ any_entries : (p : Entry → Bool) (xs : List Record) → list_any (λ r. p (ent
 any_entries p [] = refl
 any_entries p (x ∷ xs) = ap (λ b. p (entry_of x) || b) (any_entries p xs)
 
-pub any-requires-clause-callable : goal.any-requires-clause-callable
-any-requires-clause-callable g c = serves_from_places (YieldsList-from_slice c.held.result.now (cc)) (λ x q k. k.met.1) (λ x i l e. c.requires.at (x, tt))
-
 pub returns : goal.returns
-returns g c = λ p t.
-    any_from_yields_List (λ r. p (entry_of r)) _ _ c.any.result c.any.ensures.ran (YieldsList-from_slice c.held.result.now (cc)) (λ x b q k. (k.met.1, t x.now b (record { shown = x; shows = refl; says = record { met = k.met.0 } })))
+returns g c =
+    let p = g.Q.Question.asks c.args.question.now in
+    any_from_yields_List (λ r. p (entry_of r)) _ _ c.any.result c.any.ensures.ran (YieldsList-from_slice c.held.result.now (cc)) (λ x b q k. search rules)
     ∙ ap (λ ys. list_any (λ r. p (entry_of r)) ys) c.held.ensures ∙ any_entries p (take c.args.self.now.rows.used c.args.self.now.rows.rows.now)
