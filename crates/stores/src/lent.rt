@@ -11,6 +11,7 @@ pub mod opening;
 pub mod storing;
 mod writing;
 
+// Kept: a rule of the project, no heap: the rows are lent by the caller, so how many are used stands beside them.
 #[derive(Drop)]
 struct Rows<'a> {
     rows: &'a mut [Record],

@@ -1,4 +1,4 @@
-// What a store of records is, and calls that serve every store.
+// What a store of records is, calls that serve every store, and a store over lent rows, whatever the order of its records.
 #![tactic(auto)]
 
 pub mod copying;
