@@ -1,7 +1,8 @@
 // Dates, read, given back and compared.
-ghost use Rattle.std.specs.Prelude.{◌≡◌, ◌+◌, ◌<◌, ◌≤◌, true, false, length, codes, MatchOption};
+ghost use Rattle.std.specs.Prelude.{◌≡◌, ◌+◌, ◌-◌, ◌*◌, ◌≤◌, ◌&&◌, true, false, length, codes, MatchOption};
 ghost use Rattle.fields.specs.Views.{date_text};
-ghost use Rattle.rulebook.specs.Dates.{is_date_form, is_day, is_earlier, is_leap, month_days, number_at, read_date, two_digits, year_of};
+ghost use Rattle.rulebook.specs.Codes.{is_digit};
+ghost use Rattle.rulebook.specs.Dates.{is_date_form, is_day, is_earlier, is_leap, month_days, number_at, read_date, year_of};
 ghost use Rattle.rulebook.specs.Texts.{viewed};
 
 use super::Date;
@@ -42,13 +43,10 @@ struct Written {
     day: u8,
 }
 
-fn two_digits(text: &[u8], at: usize) -> Option<u8>
-    requires { (at + 1 < length text.now) × (length text.now ≤ 10) }
-    ensures { MatchOption result (two_digits text.now at ≡ false) (λ n. (two_digits text.now at ≡ true) × (n ≡ number_at text.now at) × (n ≤ 99)) }
+fn two_digits(tens: u8, ones: u8) -> Option<u8>
+    ensures { MatchOption result ((is_digit tens && is_digit ones) ≡ false) (λ n. ((is_digit tens && is_digit ones) ≡ true) × (n ≡ (tens - 48) * 10 + (ones - 48)) × (n ≤ 99)) }
 {
-    let tens = text[at];
-    let ones = text[at + 1];
-    if tens < b'0' || tens > b'9' || ones < b'0' || ones > b'9' {
+    if !tens.is_ascii_digit() || !ones.is_ascii_digit() {
         return None;
     }
     Some((tens - b'0') * 10 + (ones - b'0'))
@@ -57,17 +55,15 @@ fn two_digits(text: &[u8], at: usize) -> Option<u8>
 fn read_written(text: &[u8]) -> Option<Written>
     ensures { MatchOption result (is_date_form text.now ≡ false) (λ n. (is_date_form text.now ≡ true) × (n.year ≡ year_of text.now) × (n.month ≡ number_at text.now 5) × (n.day ≡ number_at text.now 8)) }
 {
-    if text.len() != 10 || text[4] != b'-' || text[7] != b'-' {
+    let [y1, y2, y3, y4, b'-', m1, m2, b'-', d1, d2] = text else {
         return None;
-    }
-    let century = two_digits(text, 0)?;
-    let year = two_digits(text, 2)?;
-    let month = two_digits(text, 5)?;
-    let day = two_digits(text, 8)?;
+    };
+    let century = two_digits(*y1, *y2)?;
+    let year = two_digits(*y3, *y4)?;
     Some(Written {
         year: century as u16 * 100 + year as u16,
-        month,
-        day,
+        month: two_digits(*m1, *m2)?,
+        day: two_digits(*d1, *d2)?,
     })
 }
 
