@@ -2,23 +2,17 @@
 ghost use Rattle.eic.specs.Views.{code_text};
 ghost use Rattle.rulebook.specs.Codes.{type_of};
 ghost use Rattle.rulebook.specs.Texts.{precedes};
-ghost use Rattle.std.specs.Str.{bytes_eq};
 ghost use Rattle.std.specs.Prelude.{◌≡◌, ◌==◌};
 
 use super::Code;
 
 impl Code {
     // Whether it stands before the other, byte by byte.
+    // Kept: `self < other` promises the derived order of the fields; this call says it of the texts.
     pub fn is_before(&self, other: &Code) -> bool
         ensures { result ≡ precedes (code_text self.now) (code_text other.now) }
     {
         self < other
-    }
-
-    pub fn is_same(&self, other: &Code) -> bool
-        ensures { result ≡ bytes_eq (code_text self.now) (code_text other.now) }
-    {
-        self == other
     }
 
     // Whether it has the other's type letter.
