@@ -57,7 +57,10 @@ fn articles_replaced(rt: HostRuntime) {
         for byte in 0..=255 {
             let mut text = *article;
             text[place] = byte;
-            assert_eq!(rt; gateway::eic_ean(&text), second::number(second::ean(&text).map(|()| 0)));
+            assert_eq!(rt;
+                gateway::eic_ean(&text),
+                second::number(second::ean(&text).map(|()| 0))
+            );
             assert_eq!(rt; is_ean(&text), text == *article);
         }
     }
@@ -96,10 +99,7 @@ fn generated(seed: u64) -> [u8; 15] {
 // both; or trial finds none, and the refusal is on ground 8.
 fn completed_by_both(rt: &impl Abort, text: &[u8; 15]) {
     let number = gateway::eic_check_character(text);
-    assert_eq!(rt;
-        number,
-        second::number(second::check_character(text))
-    );
+    assert_eq!(rt; number, second::number(second::check_character(text)));
     if let Ok(last) = check_character(text) {
         let code = second::completed(text, last);
         assert!(rt; is_sound(&code));

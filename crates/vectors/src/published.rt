@@ -90,10 +90,7 @@ fn check_characters(rt: HostRuntime) {
     ];
     for (text, answer) in told {
         assert_eq!(rt; gateway::eic_check_character(text), answer);
-        assert_eq!(rt;
-            second::number(second::check_character(text)),
-            answer
-        );
+        assert_eq!(rt; second::number(second::check_character(text)), answer);
     }
 }
 
