@@ -8,6 +8,7 @@ ghost use Rattle.std.specs.Prelude.{◌≡◌, option_map};
 use grounds::Ground;
 use records::Status;
 
+// Kept: no closures for the actions, since the office's table is read in one match of status and action.
 #[derive(Clone, Copy, PartialEq, Eq, Debug)]
 pub(crate) enum Action {
     Create,

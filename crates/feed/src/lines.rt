@@ -40,6 +40,7 @@ impl<const N: usize> LineReader<N> {
     }
 
     // Goes on with the line from what is unread, up to its first byte 10, and tells whether there is one.
+    // Kept: a flag, for the reason that stands at `read_on`.
     fn cut(&mut self) -> bool
         ensures told { result ≡ is_some (after_end 0 (unread_text self.old)) }
         ensures line { line_of self.new ≡ take N (line_of self.old ++ to_end (unread_text self.old)) }
@@ -70,6 +71,8 @@ impl<const N: usize> LineReader<N> {
         if self.cut() {
             return Ok(true);
         }
+        // Kept: a number that nothing reads bounds the loop, since `loop` over an input that may go on for ever is not
+        // proved to end.
         for _ in 0..u64::MAX {
             if self.unread.refill(input)? == 0 {
                 return Ok(!self.line.is_empty());
