@@ -13,6 +13,7 @@ use itoa::Buffer;
 use records::{Record, Status};
 
 // Puts a word and its fields at the front of a buffer of 200 bytes or more, and tells the line's length.
+// Kept: a rule of the project: where the buffer is shorter the length told is 0, and not none.
 fn write_line(word: &[u8], fields: &[&[u8]], buffer: &mut [u8]) -> usize
     requires { length (line_of word.now fields.now) ≤ 200 }
     ensures told { result ≡ told_length (line_of word.now fields.now) buffer.old }

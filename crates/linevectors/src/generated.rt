@@ -16,6 +16,7 @@ const LINES: [&[u8]; 6] = [
 
 const BYTES: &[u8] = b"0123456789ABCDLQRUXYZ-,+_ .az~\x00\x1f\x7f\xff";
 
+// Kept: the tests of codes have this step too; to share it would need a library of its own for one line.
 fn stepped(seed: u64) -> u64 {
     seed.wrapping_mul(6364136223846793005)
         .wrapping_add(1442695040888963407)

@@ -101,6 +101,7 @@ impl Date {
     }
 
     // YYYY-MM-DD
+    // Kept: no Display, since it writes str and an answer is bytes: `write!(f, "{:04}-{:02}-{:02}", self.year, ..)`.
     pub fn text(&self) -> [u8; 10]
         ensures { result ≡ date_text self.now }
     {
