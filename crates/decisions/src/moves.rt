@@ -8,7 +8,7 @@ ghost use Rattle.std.specs.Prelude.{◌≡◌, option_map};
 use grounds::Ground;
 use records::Status;
 
-// Kept: no closures for the actions, since the office's table is read in one match of status and action.
+// Kept: closures are no plainer, `restate(store, dated, |status| match status { .. })`: the office's table is one match.
 #[derive(Clone, Copy, PartialEq, Eq, Debug)]
 pub(crate) enum Action {
     Create,

@@ -52,18 +52,26 @@ impl From<Kind> for u8 {
     }
 }
 
-// What the type is called.
-impl fmt::Display for Kind {
-    ghost output = { λ kind. Some (kind_words kind) };
-
-    fn fmt<W: fmt::Write>(&self, f: &mut fmt::Formatter<W>) -> fmt::Result {
-        f.write_str(match self {
+impl Kind {
+    // What the type is called.
+    pub fn words(self) -> &'static str
+        ensures { result.now ≡ kind_words self }
+    {
+        match self {
             Kind::TieLine => "tie line",
             Kind::ItSystem => "IT system",
             Kind::Resource => "resource",
             Kind::Party => "party",
             Kind::Zone => "zone",
             Kind::MeteringPoint => "metering point",
-        })
+        }
+    }
+}
+
+impl fmt::Display for Kind {
+    ghost output = { λ kind. Some (kind_words kind) };
+
+    fn fmt<W: fmt::Write>(&self, f: &mut fmt::Formatter<W>) -> fmt::Result {
+        f.write_str(self.words())
     }
 }

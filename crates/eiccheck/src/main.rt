@@ -23,6 +23,8 @@ fn write_sound<W: Write>(out: &mut W, code: &Code) -> io::Result<()> {
     out.write_all(parts.office.text())
 }
 
+// Kept: a Display of what a clerk is told is no plainer, since a refusal has one of its own already: it would need a type,
+// `struct Told<'a>(&'a Refusal)`. The same holds of the next.
 fn write_refusal<W: Write>(out: &mut W, refusal: &Refusal) -> io::Result<()> {
     let number = u8::from(refusal.ground);
     let position = refusal.position;

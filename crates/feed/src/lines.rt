@@ -40,7 +40,7 @@ impl<const N: usize> LineReader<N> {
     }
 
     // Goes on with the line from what is unread, up to its first byte 10, and tells whether there is one.
-    // Kept: a flag, for the reason that stands at `read_on`.
+    // Kept: a flag, since what it finds is in the reader: `Option<()>` is no plainer.
     fn cut(&mut self) -> bool
         ensures told { result ≡ is_some (after_end 0 (unread_text self.old)) }
         ensures line { line_of self.new ≡ take N (line_of self.old ++ to_end (unread_text self.old)) }

@@ -18,7 +18,7 @@ fn number_of(ground: Ground) -> u32
 }
 
 // 0 for a sound code, else the number of the ground: 6 or 8.
-// Kept: the C interface has one number for the answer, so a refusal is a number too.
+// Kept: C takes one number, a refusal's too; it is made here, since no test can stand on the library that C links.
 pub fn eic_soundness(bytes: &[u8]) -> u32
     ensures { result ≡ soundness bytes.now }
 {
@@ -26,7 +26,7 @@ pub fn eic_soundness(bytes: &[u8]) -> u32
 }
 
 // The byte of the check character of fifteen characters, else the number of the ground: 6 or 8.
-// Kept: the C interface has one number for the answer, so a refusal is a number too.
+// Kept: C takes one number, a refusal's too; it is made here, since no test can stand on the library that C links.
 pub fn eic_check_character(bytes: &[u8]) -> u32
     ensures { result ≡ check_character_number bytes.now }
 {
@@ -34,7 +34,7 @@ pub fn eic_check_character(bytes: &[u8]) -> u32
 }
 
 // 0 for a right EAN-13, else 9.
-// Kept: the C interface has one number for the answer, so a refusal is a number too.
+// Kept: C takes one number, a refusal's too; it is made here, since no test can stand on the library that C links.
 pub fn eic_ean(bytes: &[u8]) -> u32
     ensures { result ≡ ean_number bytes.now }
 {

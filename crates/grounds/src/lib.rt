@@ -66,12 +66,12 @@ impl From<Ground> for u8 {
     }
 }
 
-// What the ground means, for a person.
-impl fmt::Display for Ground {
-    ghost output = { λ ground. Some (words_of ground) };
-
-    fn fmt<W: fmt::Write>(&self, f: &mut fmt::Formatter<W>) -> fmt::Result {
-        f.write_str(match self {
+impl Ground {
+    // What the ground means, for a person.
+    fn words(self) -> &'static str
+        ensures { result.now ≡ words_of self }
+    {
+        match self {
             Ground::Buffer => "answer buffer is under 200 bytes",
             Ground::LineLength => "line is empty or over 194 bytes",
             Ground::Action => "action is not C, U, D, R or L",
@@ -90,7 +90,15 @@ impl fmt::Display for Ground {
             Ground::NameHeld => "display name is held by another record of the type",
             Ground::NamedCode => "parent or responsible party may not be named",
             Ground::NoRoom => "store has no room",
-        })
+        }
+    }
+}
+
+impl fmt::Display for Ground {
+    ghost output = { λ ground. Some (words_of ground) };
+
+    fn fmt<W: fmt::Write>(&self, f: &mut fmt::Formatter<W>) -> fmt::Result {
+        f.write_str(self.words())
     }
 }
 
@@ -121,18 +129,22 @@ impl Refusal {
     {
         Refusal { field, ..self }
     }
+
+    // What the refusal means, for a person.
+    pub fn words(&self) -> &'static str
+        ensures { result.now ≡ refusal_words self.now }
+    {
+        match self.ground {
+            Ground::CodeForm if self.position == 0 => "code does not have the due length",
+            ground => ground.words(),
+        }
+    }
 }
 
-// What the refusal means, for a person.
 impl fmt::Display for Refusal {
     ghost output = { λ r. Some (refusal_words r) };
 
     fn fmt<W: fmt::Write>(&self, f: &mut fmt::Formatter<W>) -> fmt::Result {
-        match self.ground {
-            Ground::CodeForm if self.position == 0 => {
-                f.write_str("code does not have the due length")
-            }
-            ground => f.write(ground),
-        }
+        f.write_str(self.words())
     }
 }

@@ -30,10 +30,11 @@ fn below(seed: u64, n: usize) -> usize {
 }
 
 fn agree(rt: &impl Abort, office: &Office, line: &[u8]) -> Result<(), Fail> {
-    assert_eq!(rt;
-        read_line(office, line).err(),
-        second::check(b"9Q", line).err()
-    );
+    let refused = read_line(office, line).err();
+    assert_eq!(rt; refused, second::check(b"9Q", line).err());
+    if let Some(refusal) = refused {
+        assert_eq!(rt; u8::from(refusal.ground), second::number(refusal.ground));
+    }
     Ok(())
 }
 

@@ -1,4 +1,4 @@
-// The rules of a request line by another method, which shares nothing with the proved ones: fields
+// The rules of a request line by another method, which shares nothing with the proved ones but the type of refusals: fields
 // are found by counting commas, days come from a table, numbers are counted by their length, and a
 // code is checked by a running sum of running sums.
 use grounds::{Ground, Refusal};
@@ -28,6 +28,8 @@ fn commas(line: &[u8]) -> usize {
     line.iter().filter(|byte| **byte == b',').count()
 }
 
+// Kept: the tests of codes have these values, places and sums too, and to share them would need a library of public calls,
+// each of which has to state its outcome by a rule of the project: then it would be the first implementation again.
 fn value(character: u8) -> Option<usize> {
     b"0123456789ABCDEFGHIJKLMNOPQRSTUVWXYZ-"
         .iter()
@@ -42,8 +44,6 @@ fn fits(place: usize, character: u8) -> bool {
     }
 }
 
-// Kept: the tests of codes have these sums too, and to share them would need a library of public calls, each of which
-// has to state its outcome by a rule of the project: then it would be the first implementation again.
 fn code(office: &[u8; 2], text: &[u8]) -> Result<(), Refusal> {
     if text.len() != 16 {
         return Err(Ground::CodeForm.into());
@@ -198,5 +198,20 @@ pub(crate) fn check(office: &[u8; 2], line: &[u8]) -> Result<(), Refusal> {
         }
         b"L" => Err(Ground::FieldCount.into()),
         _ => Err(Refusal::from(Ground::Action).in_field(1)),
+    }
+}
+
+// A ground's number, by the documents.
+pub(crate) fn number(ground: Ground) -> u8 {
+    match ground {
+        Ground::LineLength => 2,
+        Ground::Action => 3,
+        Ground::FieldCount => 4,
+        Ground::Date => 5,
+        Ground::CodeForm => 6,
+        Ground::OtherOffice => 7,
+        Ground::CheckCharacter => 8,
+        Ground::FieldRule => 9,
+        _ => 0,
     }
 }

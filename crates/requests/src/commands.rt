@@ -95,6 +95,7 @@ fn read_registration(
 fn read_fields(office: &Office, request: &Request) -> Result<Command, Refusal>
     ensures { viewed order_of result ≡ read_order (office_text office.now) (order_in request.now) }
 {
+    // Kept: one arm for the first two is no plainer: `let (dated, registration) = read_both(office, dated, registration)?;`.
     match request {
         Request::Create(dated, registration) => {
             let dated = read_dated(office, dated)?;

@@ -30,6 +30,7 @@ pub struct RegistrationFields<'a> {
     pub ean: &'a [u8],
 }
 
+// Kept: two enums and two structs of each kind, for the reason that stands at Command.
 #[derive(Clone, Copy)]
 pub enum Request<'a> {
     Create(DatedFields<'a>, RegistrationFields<'a>),

@@ -35,7 +35,7 @@ pub fn copy_all<A: Store, B: Store>(from: &A, into: &mut B) -> Result<(), Unfit>
 {
     check_fit(from, into)?;
     let mut held = Record::placeholder();
-    // Kept: the rule of the project on reading: a store is read by number, and there is no iterator to go over.
+    // Kept: the rule of the project on reading, by code or by number into the caller's record: there is no iterator.
     for k in 0..from.count() {
         let _there = from.read_at(k, &mut held);
         let _ = into.write(&held);

@@ -66,7 +66,7 @@ pub trait Store {
         ensures { result ≡ any (Q.asks question.now) (entries self.now) }
     {
         let mut held = Record::placeholder();
-        // Kept: the rule of the project on reading: a store is read by number, and there is no iterator to go over.
+        // Kept: the rule of the project on reading, by code or by number into the caller's record: there is no iterator.
         for k in 0..self.count() {
             let _there = self.read_at(k, &mut held);
             if question.ask(&held) {

@@ -66,6 +66,7 @@ fn articles_replaced(rt: HostRuntime) {
     }
 }
 
+// Kept: the tests of lines have this step too; to share it would need a library of its own for one line.
 fn stepped(seed: u64) -> u64 {
     seed.wrapping_mul(6364136223846793005)
         .wrapping_add(1442695040888963407)

@@ -8,7 +8,7 @@ use super::Code;
 
 impl Code {
     // Whether it stands before the other, byte by byte.
-    // Kept: `<` promises the derived order of the fields; this call says it of the texts.
+    // Kept: `a < b` at a call is no plainer: it promises the order of the fields, and this call that of the texts.
     pub fn is_before(&self, other: &Code) -> bool
         ensures { result ≡ precedes (code_text self.now) (code_text other.now) }
     {
@@ -16,7 +16,7 @@ impl Code {
     }
 
     // Whether it has the other's type letter.
-    // Kept: no `==`, since two codes of one type are not the same code.
+    // Kept: `a.parts().kind == b.parts().kind` is no plainer.
     pub fn is_of_type(&self, other: &Code) -> bool
         ensures { result ≡ (type_of (code_text self.now) == type_of (code_text other.now)) }
     {

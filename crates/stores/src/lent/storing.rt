@@ -26,6 +26,7 @@ impl<O: Order> Store for Lent<'_, O> {
         self.rows.room()
     }
 
+    // Kept: the trait's rule on reading, here and in read_at.
     fn read(&self, code: &Code, into: &mut Record) -> bool {
         let rows = self.rows.held();
         match O::search(rows, code) {
