@@ -54,6 +54,7 @@ impl From<Kind> for u8 {
 
 impl Kind {
     // What the type is called.
+    // Kept: it cannot fail, as Display can by its writer, which stands beside it.
     pub fn words(self) -> &'static str
         ensures { result.now ≡ kind_words self }
     {

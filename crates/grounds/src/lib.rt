@@ -131,6 +131,7 @@ impl Refusal {
     }
 
     // What the refusal means, for a person.
+    // Kept: it cannot fail, as Display can by its writer, which stands beside it.
     pub fn words(&self) -> &'static str
         ensures { result.now ≡ refusal_words self.now }
     {
