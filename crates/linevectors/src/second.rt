@@ -202,6 +202,7 @@ pub(crate) fn check(office: &[u8; 2], line: &[u8]) -> Result<(), Refusal> {
 }
 
 // A ground's number, by the documents.
+// Kept: a table of its own, since `u8::from` is what it checks.
 pub(crate) fn number(ground: Ground) -> u8 {
     match ground {
         Ground::LineLength => 2,

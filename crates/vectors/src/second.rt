@@ -84,6 +84,7 @@ pub(crate) fn ean(text: &[u8]) -> Result<(), Ground> {
 }
 
 // The one number that the gateway answers, by its documents.
+// Kept: a table of its own, since `u8::from` is what it checks.
 pub(crate) fn number(outcome: Result<u8, Ground>) -> u32 {
     match outcome {
         Ok(byte) => u32::from(byte),
