@@ -22,7 +22,7 @@ mod fitting;
 mod moves;
 
 use fitting::{check_fit, check_holder};
-use moves::{Action, move_on};
+use moves::{Action, status_after};
 
 // What a granted command does: it makes a record, changes one, or shows one.
 #[derive(Clone, Copy)]
@@ -36,7 +36,7 @@ fn create<S: Store>(store: &S, dated: &Dated, registration: &Registration) -> Re
     ensures { viewed grant_of result ≡ decided (S.entries store.now) (creates (date_text dated.now.date) (code_text dated.now.code) (registration_texts registration.now)) }
 {
     let held = store.get(&dated.code).map(|held| held.status);
-    let status = move_on(held, Action::Create).map_err(|ground| Refusal::from(ground).in_field(3))?;
+    let status = status_after(held, Action::Create)?;
     if store.has_holder(&registration.object, &registration.function) {
         return Err(Refusal::from(Ground::ObjectHasCode).in_field(4));
     }
@@ -55,9 +55,7 @@ fn restate<S: Store>(store: &S, action: Action, dated: &Dated) -> Result<Record,
     ensures { viewed (λ held. revised (entry_of held)) result ≡ restated (S.entries store.now) (action_of action) (date_text dated.now.date) (code_text dated.now.code) }
 {
     let held = store.get(&dated.code);
-    let status = move_on(held.map(|held| held.status), action).map_err(|ground| Refusal::from(
-        ground,
-    ).in_field(3))?;
+    let status = status_after(held.map(|held| held.status), action)?;
     let Some(held) = held else { unreachable() };
     if dated.date.is_before(&held.date) {
         return Err(Refusal::from(Ground::EarlierDate).in_field(2));
