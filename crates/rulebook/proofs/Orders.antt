@@ -1,6 +1,6 @@
 -- The order of texts is strict and total. Assumes nothing.
 use Rattle.std.proofs.Common.{◌≡◌, ℕ, ◌<◌, Bool, true, false, ◌&&◌, eqb, ltb, [], ◌∷◌, sym, refl, ap, ◌∙◌, ⊎_elim, arith}
-use Rattle.std.proofs.lemmas.Bool.{ltb-true, ltb-false, lt-ltb, le-ltb, eqb-true, eq-eqb, and_parts, and_from, and_right, or_cases, or_parts, or_from, or_left, or_right, both_ways, cases_order}
+use Rattle.std.proofs.lemmas.Bool.{ltb-true, ltb-false, lt-ltb, le-ltb, eqb-true, eq-eqb, and_parts, and_from, and_right, or_cases, or_parts, or_from, or_left, or_right, both_ways, cases_Bool, cases_order}
 use Rattle.rulebook.specs.Texts.{Text, precedes}
 
 pub precedes_irrefl : (t : Text) → precedes t t ≡ false
@@ -50,3 +50,8 @@ precedes_total (a ∷ t) (b ∷ u) p ne =
     by_rest b a u t (sym e) (precedes_total t u rest (λ (s : t ≡ u). ne (ap (λ z. z ∷ t) e ∙ ap (λ z. b ∷ z) s))))
     (⊎_elim (λ (l : a < b). absurd (omega arith)) (λ (l : b < a). by_first b a u t l))
     (cases_order a b)
+
+-- a text does not stand before one that stands before it
+pub precedes_asym : (t u : Text) → precedes t u ≡ true → precedes u t ≡ false
+precedes_asym t u p =
+    ⊎_elim (λ q. absurd (both_ways (precedes t t) (precedes_irrefl t) (precedes_trans t u t p q))) (λ q. q) (cases_Bool (precedes u t))

@@ -1,10 +1,28 @@
--- The weighted sum and the first unlawful character: one character replaced, one put at the end. Assumes nothing.
-use Rattle.std.proofs.Common.{◌≡◌, ℕ, zero, suc, ◌+◌, ◌*◌, ◌<◌, Bool, true, false, cond, [], ◌∷◌, ◌++◌, length, get_or, set, Some, None, Option, refl, ◌∙◌, subst, not-suc-le-zero, add-zero, arith}
-use Rattle.std.proofs.lemmas.Bool.{cond-true}
+-- The weighted sum and the first unlawful character: one character more, one replaced, one put at the end. Assumes nothing.
+use Rattle.std.proofs.Common.{◌≡◌, ℕ, zero, suc, ◌+◌, ◌*◌, ◌<◌, ◌≤◌, Bool, true, false, cond, [], ◌∷◌, ◌++◌, length, get_or, drop, set, Some, None, Option, refl, ◌∙◌, subst, not-suc-le-zero, add-zero, add-one, arith}
+use Rattle.std.proofs.lemmas.List.{at_drop_more, at_drop_all}
+use Rattle.std.proofs.lemmas.Bool.{cond-true, cond-false}
 use Rattle.rulebook.specs.Texts.{Text}
 use Rattle.rulebook.specs.Schemes.{Scheme, weighted_sum, first_unlawful}
 
 module _ (s : Scheme) where
+  -- one character more is read
+  pub sum_more : (t : Text) (i : ℕ) → i < length t → weighted_sum s i (drop i t) ≡ s.weight i * s.value (get_or t i 0) + weighted_sum s (i + 1) (drop (i + 1) t)
+  sum_more t i h = at_drop_more (weighted_sum s i) t i 0 h ∙ rw add-one
+
+  -- all characters are read
+  pub sum_all : (t : Text) (i : ℕ) → length t ≤ i → weighted_sum s i (drop i t) ≡ 0
+  sum_all t i h = at_drop_all (weighted_sum s i) t i h
+
+  pub unlawful_more : (t : Text) (i : ℕ) → i < length t → s.lawful i (get_or t i 0) ≡ true → first_unlawful s i (drop i t) ≡ first_unlawful s (i + 1) (drop (i + 1) t)
+  unlawful_more t i h e = at_drop_more (first_unlawful s i) t i 0 h ∙ cond-true (s.lawful i (get_or t i 0)) _ _ e ∙ rw add-one
+
+  pub unlawful_here : (t : Text) (i : ℕ) → i < length t → s.lawful i (get_or t i 0) ≡ false → first_unlawful s i (drop i t) ≡ Some (i + 1)
+  unlawful_here t i h e = at_drop_more (first_unlawful s i) t i 0 h ∙ cond-false (s.lawful i (get_or t i 0)) _ _ e ∙ rw add-one
+
+  pub unlawful_all : (t : Text) (i : ℕ) → length t ≤ i → first_unlawful s i (drop i t) ≡ None
+  unlawful_all t i h = at_drop_all (first_unlawful s i) t i h
+
   -- one character is replaced
   pub sum_set : (j : ℕ) (t : Text) (i b : ℕ) → i < length t → weighted_sum s j (set t i b) + s.weight (j + i) * s.value (get_or t i 0) ≡ weighted_sum s j t + s.weight (j + i) * s.value b
   sum_set j [] i b h = absurd (not-suc-le-zero h)
