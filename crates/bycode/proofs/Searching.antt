@@ -15,6 +15,7 @@ use Rattle.rulebook.proofs.Entries.{apart_place}
 use Rattle.rulebook.proofs.Orders.{precedes_irrefl, precedes_trans}
 use Rattle.rulebook.proofs.Rights.{never}
 use Rattle.eic.specs.Views.{code_text}
+use Rattle.eic.proofs.Order.{ranked}
 use Rattle.records.specs.Views.{entry_of, entries_of, placeholder}
 use Rattle.records.specs.declared.Record.{Record}
 use Rattle.stores.specs.Orders.{Stands}
@@ -23,21 +24,6 @@ use Rattle.bycode.specs.Apart.{ascending_apart, ascending_at}
 use Rattle.bycode.specs.Order.{is_ascending, slot, located}
 use Rattle.bycode.specs.Laws.{located_by}
 use Rattle.bycode.specs.Slots.{slot_le, slot_upto, slot_past, stands}
-
--- ---- texts, compared byte by byte
-ranked_by : (a b : ℕ) (t u : Text) (o q : Ordering) → MatchOrdering o (a < b) (a ≡ b) (b < a) → MatchOrdering q (precedes t u ≡ true) (t ≡ u) (precedes u t ≡ true)
-    → MatchOrdering (ordering_then o q) (precedes (a ∷ t) (b ∷ u) ≡ true) (a ∷ t ≡ b ∷ u) (precedes (b ∷ u) (a ∷ t) ≡ true)
-ranked_by a b t u Less q l m = or_left _ _ (lt-ltb a b l)
-ranked_by a b t u Greater q l m = or_left _ _ (lt-ltb b a l)
-ranked_by a b t u Equal Less e m = or_right _ _ (and_from _ _ (eq-eqb a b e) m)
-ranked_by a b t u Equal Equal e m = cc
-ranked_by a b t u Equal Greater e m = or_right _ _ (and_from _ _ (eq-eqb b a (sym e)) m)
-
-pub ranked : (t u : Text) → MatchOrdering (slice_cmp nat_cmp t u) (precedes t u ≡ true) (t ≡ u) (precedes u t ≡ true)
-ranked [] [] = refl
-ranked [] (b ∷ u) = refl
-ranked (a ∷ t) [] = refl
-ranked (a ∷ t) (b ∷ u) = ranked_by a b t u (nat_cmp a b) (slice_cmp nat_cmp t u) (ranks a b) (ranked t u)
 
 -- ---- what a search has found
 module _ (c : Text) (es : List Entry) (u : is_ascending es ≡ true) (i : ℕ) where

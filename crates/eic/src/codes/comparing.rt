@@ -12,7 +12,7 @@ impl Code {
     pub fn is_before(&self, other: &Code) -> bool
         ensures { result ≡ precedes (code_text self.now) (code_text other.now) }
     {
-        self < other
+        self.cmp(other).is_lt()
     }
 
     // Whether it has the other's type letter.
