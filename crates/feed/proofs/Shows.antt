@@ -10,12 +10,12 @@ use Rattle.feed.specs.Readers.{Next}
 use Rattle.feed.specs.Shown.{shown}
 
 -- what is known of a line that was read, by what is shown of it
-abbrev ShownAs : ℕ → Text → Option Text → Text → Option Text → Option (Bor Text) → Type 0
-ShownAs n unread input left rest line = Next n unread (is_some line) (shown line) left × Reads n unread input (is_some line) (shown line) left rest
+abbrev ShownAs : ℕ → Text → Option Text → Text → Option Text → Text → Option (Bor Text) → Type 0
+ShownAs n unread input left rest kept line = Next n unread (is_some line) (shown line) left × Reads n unread input (is_some line) (shown line) left rest × (kept ≡ shown line)
 
-pub shown_by : {E : Type 0} (n : ℕ) (unread : Text) (input : Option Text) (left : Text) (rest : Option Text) {r : Result (Option (Bor Text)) E} {o p : Option (Bor Text)} →
-    r ≡ Ok o → IfOk r (ShownAs n unread input left rest) → o ≡ p → ShownAs n unread input left rest p
-shown_by n unread input left rest is h e = subst (ShownAs n unread input left rest) e (IfOk-at_ok (ShownAs n unread input left rest) is h)
+pub shown_by : {E : Type 0} (n : ℕ) (unread : Text) (input : Option Text) (left : Text) (rest : Option Text) (kept : Text) {r : Result (Option (Bor Text)) E} {o p : Option (Bor Text)} →
+    r ≡ Ok o → IfOk r (ShownAs n unread input left rest kept) → o ≡ p → ShownAs n unread input left rest kept p
+shown_by n unread input left rest kept is h e = subst (ShownAs n unread input left rest kept) e (IfOk-at_ok (ShownAs n unread input left rest kept) is h)
 
 pub on_ok : {X E : Type 0} (r : Result X E) (P : Type 0) → P → OnOk r P
 on_ok (Ok x) P p = p

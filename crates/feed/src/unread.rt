@@ -1,5 +1,5 @@
 // What is read of an input and not yet cut into lines.
-ghost use Rattle.std.specs.Prelude.{◌≡◌, ◌≤◌, ◌==◌, [], length, drop, IfOk, OnOk};
+ghost use Rattle.std.specs.Prelude.{◌≡◌, ◌≤◌, ◌==◌, [], length, drop, IfOk, OnErr, OnOk};
 ghost use Rattle.std.specs.Io.KnownBytes.{Consumes, IsAtEnd};
 
 use std::io;
@@ -63,14 +63,18 @@ impl Unread {
         self.from = self.to;
     }
 
-    // Reads once, and tells how many bytes came.
+    // Reads once, where nothing is unread, and tells how many bytes came. Where that fails, nothing is unread as before.
     pub(crate) fn refill<R: Read>(&mut self, input: &mut R) -> io::Result<usize>
+        requires { self.old ≡ [] }
         ensures count { IfOk result (λ n. n ≡ length self.new) }
         ensures bytes { OnOk result (Consumes (R.remaining input.old) (R.remaining input.new) self.new) }
         ensures end { IfOk result (λ n. n ≡ 0 → IsAtEnd (R.remaining input.new)) }
+        ensures few { length self.new ≤ 4096 }
+        ensures failed { OnErr result (self.new ≡ []) }
     {
+        let n = input.read(&mut self.bytes)?;
         self.from = 0;
-        self.to = input.read(&mut self.bytes)?;
-        Ok(self.to)
+        self.to = n;
+        Ok(n)
     }
 }
