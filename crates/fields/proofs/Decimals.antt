@@ -1,13 +1,15 @@
 -- A number read from its digits is written by them again. Assumes nothing.
 use Rattle.std.proofs.Common.{◌≡◌, ℕ, ◌+◌, ◌-◌, ◌*◌, ◌^◌, ◌<◌, ◌≤◌, true, not, ◌&&◌, eqb, leb, max, min, [], ◌∷◌, length, get_or, take, zero, suc, decimal, sym, refl, ap, ◌∙◌, ⊎_elim, arith}
-use Rattle.std.specs.Str.{all_ascii_digits}
+use Rattle.std.specs.Str.{all_ascii_digits, bytes_eq}
 use Rattle.std.specs.Str.Parse.{digits_value}
 use Rattle.std.specs.Char.{digit_value}
 use Rattle.std.proofs.lemmas.Str.{digit_value_digit}
 use Rattle.std.proofs.lemmas.Int.Digits.{digits_value_more}
-use Rattle.std.proofs.lemmas.Fmt.{decimal-digits_value, decimal_digit}
+use Rattle.std.proofs.lemmas.Fmt.{decimal-digits_value, decimal_digit, decimal_injective}
+use Rattle.std.proofs.lemmas.Slice.Eq.{bytes_eq-Decides}
 use Rattle.std.proofs.lemmas.Str.Parse.{IsNumeralModel, digits_value-take-le, numerals_by_value, tells_all_ascii_digits, digits_value_short}
 use Rattle.std.proofs.lemmas.Bool.{and_from, and_parts, eqb-false, not-true, leb-true, cases_lt}
+use Rattle.std.proofs.lemmas.Bool.Decides.{same_from_decides, Decides-eqb, Decides-like}
 use Rattle.rulebook.specs.Texts.{Text}
 use Rattle.rulebook.specs.Codes.{is_digit}
 use Rattle.rulebook.specs.Fields.{all_of, up_to, is_number}
@@ -52,9 +54,16 @@ numbered k m t least n =
     (λ h. h) (cases_lt v 1) in
     record { digits = d; fits = omega arith; positive = some; small = small_from v (10 ^ k) short; text = is }
 
+-- numbers are the same as their digits are
+pub same_decimals : (m n : ℕ) → m < 2 ^ 64 → n < 2 ^ 64 → eqb m n ≡ bytes_eq (decimal m) (decimal n)
+same_decimals m n hm hn =
+    same_from_decides (eqb m n) (bytes_eq (decimal m) (decimal n)) (Decides-eqb m n)
+    (Decides-like (bytes_eq (decimal m) (decimal n)) (decimal_injective m n hm hn) (ap decimal) (bytes_eq-Decides (decimal m) (decimal n)))
+
 -- one digit more
 pub record Next (t : Text) (i : ℕ) : Type 0 where
   pub low : 48 ≤ get_or t i 0
+  pub high : get_or t i 0 ≤ 57
   pub more : digits_value 10 (take i t) * 10 + (get_or t i 0 - 48) ≡ digits_value 10 (take (i + 1) t)
   pub within : digits_value 10 (take (i + 1) t) ≤ digits_value 10 t
 
@@ -68,4 +77,4 @@ next_digit t i e h =
     let d = digit_here t i e h in
     let v : digit_value (get_or t i 0) + 48 ≡ get_or t i 0 = digit_value_digit (get_or t i 0) d in
     let m = digits_value_more 10 t i h in
-    record { low = d.0; more = omega arith; within = digits_value-take-le 10 t (i + 1) (omega arith) }
+    record { low = d.0; high = d.1; more = omega arith; within = digits_value-take-le 10 t (i + 1) (omega arith) }

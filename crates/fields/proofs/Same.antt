@@ -17,6 +17,7 @@ use Rattle.rulebook.specs.Schemes.{is_right}
 use Rattle.rulebook.specs.Articles.{ean13}
 use Rattle.rulebook.specs.Dates.{month_days, written_day}
 use Rattle.fields.specs.Bounded.{bounded_text}
+use Rattle.fields.proofs.Decimals.{same_decimals}
 use Rattle.fields.specs.Views.{date_text, lawful_text, number_text, ean_text}
 use Rattle.fields.specs.declared.articles.Ean.{Ean}
 use Rattle.fields.specs.declared.bounded.Bounded.{Bounded}
@@ -97,9 +98,7 @@ lawful_same a b e = kept_alike a b (bounded_same a.kept b.kept e)
 
 -- what `==` says of two values, it says of their texts
 pub number_eq : (k : ℕ) → k ≤ 19 → (a b : Number k) → eqb a.number b.number ≡ bytes_eq (number_text a) (number_text b)
-number_eq k h a b =
-    same_from_decides (eqb a.number b.number) (bytes_eq (number_text a) (number_text b)) (Decides-eqb a.number b.number)
-    (Decides-like (bytes_eq (number_text a) (number_text b)) (decimal_injective a.number b.number (number_fits k a.number h a.small) (number_fits k b.number h b.small)) (ap decimal) (bytes_eq-Decides (number_text a) (number_text b)))
+number_eq k h a b = same_decimals a.number b.number (number_fits k a.number h a.small) (number_fits k b.number h b.small)
 
 pub lawful_eq : {n : ℕ} {R : _} {rule : _} (a b : Lawful n R rule) → ((pointwise eqb a.kept.bytes b.kept.bytes && eqb a.kept.len b.kept.len) && true) ≡ bytes_eq (lawful_text a) (lawful_text b)
 lawful_eq a b =

@@ -3,6 +3,7 @@ ghost use Rattle.fields.specs.Views.{lawful_text, vat_text};
 ghost use Rattle.grounds.specs.declared.Ground.TheVariants.{FieldRule};
 ghost use Rattle.rulebook.specs.Fields.{is_vat};
 ghost use Rattle.rulebook.specs.Texts.{passed, viewed};
+ghost use Rattle.std.specs.Str.{bytes_eq};
 ghost use Rattle.std.specs.Prelude.{◌≡◌, ◌≤◌, length, codes};
 
 use super::super::bounded::Bounded;
@@ -34,6 +35,13 @@ impl<const N: usize, R: Rule<N>> Lawful<N, R> {
         ensures short { length result.now ≤ N }
     {
         self.kept.text()
+    }
+
+    // Whether the two are the same: the call that says of the texts what `==` says of the fields.
+    pub fn is_same(&self, other: &Self) -> bool
+        ensures { result ≡ bytes_eq (lawful_text self.now) (lawful_text other.now) }
+    {
+        self == other
     }
 }
 

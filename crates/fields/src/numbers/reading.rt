@@ -4,7 +4,7 @@ ghost use Rattle.grounds.specs.declared.Ground.TheVariants.{FieldRule};
 ghost use Rattle.rulebook.specs.Fields.{is_number};
 ghost use Rattle.rulebook.specs.Texts.{passed, viewed};
 ghost use Rattle.std.specs.Prelude.{◌≡◌, ◌-◌, ◌^◌, ◌<◌, ◌≤◌, true, codes, decimal, max, min};
-ghost use Rattle.std.specs.Str.{all_ascii_digits};
+ghost use Rattle.std.specs.Str.{all_ascii_digits, bytes_eq};
 ghost use Rattle.std.specs.Str.Parse.{digits_value};
 
 use super::super::bytes::is_up_to;
@@ -52,6 +52,14 @@ impl<const DIGITS: usize> Number<DIGITS> {
         ensures { number_text result ≡ codes "1" }
     {
         Number { number: 1 }
+    }
+
+    // Whether the two are the same: the call that says of the texts what `==` says of the fields.
+    pub fn is_same(&self, other: &Self) -> bool
+        ensures { result ≡ bytes_eq (number_text self.now) (number_text other.now) }
+    {
+        let number = self.number();
+        number == other.number()
     }
 
     // The number, whose decimal digits are its text.
