@@ -4,10 +4,11 @@
 ghost use Rattle.eic.specs.Views.{code_text};
 ghost use Rattle.fields.specs.Views.{display_text, function_text, object_text};
 ghost use Rattle.records.specs.Views.{entry_of};
-ghost use Rattle.rulebook.specs.Entries.{is_holder, is_namesake};
+ghost use Rattle.rulebook.specs.Entries.{any, is_holder, is_namesake};
 ghost use Rattle.rulebook.specs.Records.{Entry};
 ghost use Rattle.std.specs.Prelude.{◌≡◌, Bool};
 
+use super::store::Store;
 use eic::codes::Code;
 use fields::names::DisplayName;
 use fields::numbers::{Function, ObjectNumber};
@@ -19,6 +20,21 @@ pub trait Question {
 
     fn ask(&self, held: &Record) -> bool
         ensures { result ≡ asks self.now (entry_of held.now) };
+}
+
+// Whether some record of a store, active or not, answers a question with yes.
+pub fn any<S: Store, Q: Question>(store: &S, question: &Q) -> bool
+    ensures { result ≡ any (Q.asks question.now) (S.Store.entries store.now) }
+{
+    let mut held = Record::placeholder();
+    // Kept: the rule of the project on reading, by code or by number into the caller's record: there is no iterator.
+    for k in 0..store.count() {
+        let _there = store.read_at(k, &mut held);
+        if question.ask(&held) {
+            return true;
+        }
+    }
+    false
 }
 
 // Whether it has this object in this function.

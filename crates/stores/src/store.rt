@@ -1,15 +1,14 @@
 // A store: records, no two with the same code, and room for so many more.
-ghost use Rattle.std.specs.Prelude.{◌≡◌, ℕ, Bool, false, List, length, is_ok};
+ghost use Rattle.std.specs.Prelude.{◌≡◌, ℕ, false, List, length, is_ok};
 ghost use Rattle.eic.specs.Views.{code_text};
 ghost use Rattle.fields.specs.Views.{display_text, function_text, object_text};
 ghost use Rattle.records.specs.Views.{entry_of};
-ghost use Rattle.rulebook.specs.Entries.{Apart, any, find, has_holder, has_namesake, nth};
+ghost use Rattle.rulebook.specs.Entries.{Apart, find, has_holder, has_namesake, nth};
 ghost use Rattle.rulebook.specs.Records.{Entry};
 ghost use Rattle.rulebook.specs.Stores.{Writes};
 ghost use Rattle.std.specs.Option.{option_map};
 ghost use Rattle.stores.specs.Reads.{Reads};
 
-use super::questions::{HasHolder, HasNamesake, Question};
 use eic::codes::Code;
 use fields::names::DisplayName;
 use fields::numbers::{Function, ObjectNumber};
@@ -61,32 +60,34 @@ pub trait Store {
         ensures wrote { Writes (entry_of from.now) (entries self.old) (room self.old) (is_ok result) (entries self.new) (room self.new) }
         ensures refused { is_ok result ≡ false → self.new ≡ self.old };
 
-    // Whether some record, active or not, answers a question with yes.
-    fn any<Q: Question>(&self, question: &Q) -> bool
-        ensures { result ≡ any (Q.asks question.now) (entries self.now) }
+    // Whether some record, active or not, has this object in this function.
+    // Kept: a loop of its own here and in the next, since a generic method, as `any<Q: Question>(&self, question: &Q)`, would
+    // refuse a `&dyn Store`, and a default body can call none beside the trait.
+    fn has_holder(&self, object: &ObjectNumber, function: &Function) -> bool
+        ensures { result ≡ has_holder (object_text object.now) (function_text function.now) (entries self.now) }
     {
         let mut held = Record::placeholder();
         // Kept: the rule of the project on reading, by code or by number into the caller's record: there is no iterator.
         for k in 0..self.count() {
             let _there = self.read_at(k, &mut held);
-            if question.ask(&held) {
+            if held.is_holder(object, function) {
                 return true;
             }
         }
         false
     }
 
-    // Whether some record, active or not, has this object in this function.
-    fn has_holder(&self, object: &ObjectNumber, function: &Function) -> bool
-        ensures { result ≡ has_holder (object_text object.now) (function_text function.now) (entries self.now) }
-    {
-        self.any(&HasHolder { object, function })
-    }
-
     // Whether some other record of the code's type, active or not, has this display name.
     fn has_namesake(&self, code: &Code, display: &DisplayName) -> bool
         ensures { result ≡ has_namesake (code_text code.now) (display_text display.now) (entries self.now) }
     {
-        self.any(&HasNamesake { code, display })
+        let mut held = Record::placeholder();
+        for k in 0..self.count() {
+            let _there = self.read_at(k, &mut held);
+            if held.is_namesake(code, display) {
+                return true;
+            }
+        }
+        false
     }
 }

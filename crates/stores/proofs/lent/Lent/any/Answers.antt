@@ -6,7 +6,7 @@ use Rattle.rulebook.specs.Records.{Entry}
 use Rattle.rulebook.specs.Entries.{any}
 use Rattle.records.specs.Views.{entry_of}
 use Rattle.records.specs.declared.Record.{Record}
-use Rattle.stores.proofs.lent.storing.LentStore.any.Goals as goal
+use Rattle.stores.proofs.lent.Lent.any.Goals as goal
 
 any_entries : (p : Entry → Bool) (xs : List Record) → list_any (λ r. p (entry_of r)) xs ≡ any p (map entry_of xs)
 any_entries p [] = refl
