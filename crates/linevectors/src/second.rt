@@ -3,6 +3,20 @@
 // code is checked by a running sum of running sums.
 use grounds::{Ground, Refusal};
 
+// Kept: refusals are written out, since `Refusal::new`, `from` and `in_field` are of the proved code.
+fn refused(ground: Ground, field: u8, position: u8) -> Refusal {
+    Refusal {
+        ground,
+        field,
+        position,
+    }
+}
+
+// The refusal, found in the field of this number.
+fn placed(refusal: Refusal, field: u8) -> Refusal {
+    refused(refusal.ground, field, refusal.position)
+}
+
 // The field after so many commas.
 // Kept: commas are counted by hand, since `line.split(|b| *b == b',').nth(after)` is how the proved code goes.
 fn field(line: &[u8], after: usize) -> &[u8] {
@@ -46,22 +60,22 @@ fn fits(place: usize, character: u8) -> bool {
 
 fn code(office: &[u8; 2], text: &[u8]) -> Result<(), Refusal> {
     if text.len() != 16 {
-        return Err(Ground::CodeForm.into());
+        return Err(refused(Ground::CodeForm, 0, 0));
     }
     let mut running: usize = 0;
     let mut total: usize = 0;
     for ((place, character), position) in text.iter().enumerate().zip(1..=16) {
         if !fits(place, *character) {
-            return Err(Refusal::new(Ground::CodeForm, position));
+            return Err(refused(Ground::CodeForm, 0, position));
         }
         running = running.saturating_add(value(*character).unwrap_or(0)) % 37;
         total = total.saturating_add(running) % 37;
     }
     if !text.starts_with(office) {
-        return Err(Ground::OtherOffice.into());
+        return Err(refused(Ground::OtherOffice, 0, 0));
     }
     if total != 0 {
-        return Err(Ground::CheckCharacter.into());
+        return Err(refused(Ground::CheckCharacter, 0, 0));
     }
     Ok(())
 }
@@ -152,7 +166,7 @@ fn rule(field: u8, kept: bool) -> Result<(), Refusal> {
     if kept {
         Ok(())
     } else {
-        Err(Refusal::from(Ground::FieldRule).in_field(field))
+        Err(refused(Ground::FieldRule, field, 0))
     }
 }
 
@@ -162,8 +176,8 @@ fn registration(office: &[u8; 2], line: &[u8], party: bool) -> Result<(), Refusa
     rule(5, is_number(2, field(line, 4)))?;
     rule(6, is_name(field(line, 5)))?;
     rule(7, is_display(field(line, 6)))?;
-    code_or_blank(office, field(line, 7)).map_err(|refusal| refusal.in_field(8))?;
-    code_or_blank(office, field(line, 8)).map_err(|refusal| refusal.in_field(9))?;
+    code_or_blank(office, field(line, 7)).map_err(|refusal| placed(refusal, 8))?;
+    code_or_blank(office, field(line, 8)).map_err(|refusal| placed(refusal, 9))?;
     let vat = field(line, 9);
     rule(10, vat.is_empty() || (party && is_vat(vat)))?;
     let ean = field(line, 10);
@@ -172,13 +186,13 @@ fn registration(office: &[u8; 2], line: &[u8], party: bool) -> Result<(), Refusa
 
 fn dated(office: &[u8; 2], line: &[u8], long: bool) -> Result<(), Refusal> {
     if commas(line) != if long { 10 } else { 2 } {
-        return Err(Ground::FieldCount.into());
+        return Err(refused(Ground::FieldCount, 0, 0));
     }
     if !is_date(field(line, 1)) {
-        return Err(Refusal::from(Ground::Date).in_field(2));
+        return Err(refused(Ground::Date, 2, 0));
     }
     let text = field(line, 2);
-    code(office, text).map_err(|refusal| refusal.in_field(3))?;
+    code(office, text).map_err(|refusal| placed(refusal, 3))?;
     if long {
         registration(office, line, text.get(2) == Some(&b'X'))?;
     }
@@ -188,16 +202,16 @@ fn dated(office: &[u8; 2], line: &[u8], long: bool) -> Result<(), Refusal> {
 // Whether a line is lawful for an office, or why not.
 pub(crate) fn check(office: &[u8; 2], line: &[u8]) -> Result<(), Refusal> {
     if line.is_empty() || line.len() > 194 {
-        return Err(Ground::LineLength.into());
+        return Err(refused(Ground::LineLength, 0, 0));
     }
     match field(line, 0) {
         b"C" | b"U" => dated(office, line, true),
         b"D" | b"R" => dated(office, line, false),
         b"L" if commas(line) == 1 => {
-            code(office, field(line, 1)).map_err(|refusal| refusal.in_field(2))
+            code(office, field(line, 1)).map_err(|refusal| placed(refusal, 2))
         }
-        b"L" => Err(Ground::FieldCount.into()),
-        _ => Err(Refusal::from(Ground::Action).in_field(1)),
+        b"L" => Err(refused(Ground::FieldCount, 0, 0)),
+        _ => Err(refused(Ground::Action, 1, 0)),
     }
 }
 
