@@ -98,7 +98,7 @@ impl fmt::Display for Ground {
     ghost output = { λ ground. Some (words_of ground) };
 
     fn fmt<W: fmt::Write>(&self, f: &mut fmt::Formatter<W>) -> fmt::Result {
-        f.write_str(self.words())
+        f.write_str(Ground::words(*self))
     }
 }
 
