@@ -1,11 +1,12 @@
 -- The derived order of codes, byte by byte, is the order of their texts. Assumes nothing.
-use Rattle.std.proofs.Common.{◌≡◌, ℕ, ◌<◌, true, [], ◌∷◌, sym, refl, ap, ◌∙◌}
+use Rattle.std.proofs.Common.{◌≡◌, ℕ, ◌<◌, true, [], ◌∷◌, sym, refl, ap, ◌∙◌, arith}
 use Rattle.std.specs.Cmp.{ranks}
-use Rattle.std.specs.Cmp.Lexicographic.{slice_cmp}
-use Rattle.std.specs.Ordering.{MatchOrdering, nat_cmp, ordering_then, is_lt}
+use Rattle.std.specs.Cmp.Lexicographic.{slice_cmp, slice_partial_cmp}
+use Rattle.std.specs.Ordering.{MatchOrdering, nat_cmp, ordering_then, is_lt, partial_lt, as_partial_cmp}
 use Rattle.std.specs.declared.cmp.Ordering.{Ordering}
 use Rattle.std.specs.declared.cmp.Ordering.TheVariants.{Less, Equal, Greater}
 use Rattle.std.proofs.lemmas.Bool.{or_left, or_right, and_from, lt-ltb, eq-eqb}
+use Rattle.std.proofs.lemmas.Bool.Decides.{nat_tests}
 use Rattle.rulebook.specs.Texts.{Text, precedes}
 use Rattle.rulebook.proofs.Orders.{precedes_irrefl, precedes_asym}
 
@@ -31,3 +32,10 @@ lt_by t u Greater p = sym (precedes_asym u t p)
 -- what `cmp` answers at lists of bytes
 pub cmp_precedes : (t u : Text) → is_lt (slice_cmp nat_cmp t u) ≡ precedes t u
 cmp_precedes t u = lt_by t u (slice_cmp nat_cmp t u) (ranked t u)
+
+-- and `<`
+pub lt_precedes : (t u : Text) → partial_lt (slice_partial_cmp (as_partial_cmp nat_cmp)) t u ≡ precedes t u
+lt_precedes [] [] = refl
+lt_precedes [] (b ∷ u) = refl
+lt_precedes (a ∷ t) [] = refl
+lt_precedes (a ∷ t) (b ∷ u) = let ih = lt_precedes t u in grind (arith, nat_tests)

@@ -98,6 +98,7 @@ impl fmt::Display for Ground {
     ghost output = { λ ground. Some (words_of ground) };
 
     fn fmt<W: fmt::Write>(&self, f: &mut fmt::Formatter<W>) -> fmt::Result {
+        // Named by its type, so that an edit tells this line from the like of a refusal.
         f.write_str(Ground::words(*self))
     }
 }

@@ -26,7 +26,7 @@ impl<const N: usize> LineReader<N> {
         }
     }
 
-    // The line that was read last, as far as it is kept; empty where there was none.
+    // The line that was read last, as far as it is kept; empty where there was none, and after a failure what had come of it.
     pub fn line(&self) -> &[u8]
         ensures { result.now ≡ line_of self.now }
     {
